@@ -117,7 +117,7 @@ fn with_lists(told: Result<(String, String), AllocError>) -> Result<String, Allo
     Ok(said)
 }
 
-/// What a run over the store of the bundle comes to, and the lists of uids that were asked for. Fails out of memory.
+/// What a run over the store of the bundle comes to, and the lists of uids that were asked for. Fails when out of memory.
 pub fn over_store(alloc: Global) -> Result<String, AllocError> {
     let mut host = store_host(alloc)?;
     let told = both(over_bundle(alloc, &mut host), told_lists(alloc, &host));

@@ -72,7 +72,7 @@ fn tier(alloc: Global, args: &[V]) -> Result<ExtensionOutputValue, CallFault>
     Ok(ExtensionOutputValue::Known(Value::new(tier, None)))
 }
 
-/// What the service says over a table with the function `tier`: of rounds by hand, and of a run. Fails out of memory.
+/// What the service says over a table with the function `tier`: of rounds by hand, and of a run. Fails when out of memory.
 #[tactic(auto, using(crate::proofs::Alike::tiers_alike))]
 pub fn told(alloc: Global) -> Result<String, AllocError> {
     let func: Func = Box::new(alloc, |alloc: Global, args: &[V]| tier(alloc, args))?;

@@ -275,7 +275,7 @@ fn goes_wrong(
     wrong
 }
 
-/// The first row that says something else, with what it says; nothing where all hold. Fails out of memory.
+/// The first row that says something else, with what it says; nothing where all hold. Fails when out of memory.
 pub fn wrong_row(alloc: Global) -> Result<String, AllocError> {
     for (principal, rows) in [("User::a", KNOWN), ("User::a", ABSENT), ("", OPEN)] {
         let mut host = store_host(alloc)?;

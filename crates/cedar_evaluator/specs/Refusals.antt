@@ -13,7 +13,7 @@ use Rattle.cedar_evaluator.specs.declared.err.ReauthorizationError.{Reauthorizat
 use Rattle.cedar_evaluator.specs.declared.err.ReauthorizationError.TheVariants as reauthorization
 use Rattle.cedar_evaluator.specs.declared.partial_response.PartialResponse.{PartialResponse}
 
--- an error of a set of policies and one of a request as those of reauthorizing: want of memory stays itself
+-- an error of a set of policies and one of a request as those of reauthorizing: out of memory stays itself
 abbrev pub set_refusal : PolicySetError → ReauthorizationError
 set_refusal adding.OutOfMemory = reauthorization.OutOfMemory
 set_refusal (adding.Occupied i) = reauthorization.PolicySetError (adding.Occupied i)
@@ -21,7 +21,7 @@ set_refusal (adding.Occupied i) = reauthorization.PolicySetError (adding.Occupie
 abbrev pub as_reauthorization : ConcretizationError → ReauthorizationError
 as_reauthorization e = if is_request_memory e then reauthorization.OutOfMemory else reauthorization.ConcretizationError e
 
--- whether it is want of memory, and which refusal of the model it tells
+-- whether it is out of memory, and which refusal of the model it tells
 abbrev pub is_set_memory : PolicySetError → Bool
 is_set_memory adding.OutOfMemory = true
 is_set_memory (adding.Occupied i) = false
@@ -40,7 +40,7 @@ refused_or other reauthorization.OutOfMemory = other
 refused_or other (reauthorization.PolicySetError e) = set_refused_or other e
 refused_or other (reauthorization.ConcretizationError e) = refusal_or other e
 
--- This response is made, or it is refused for this reason. Want of memory says nothing.
+-- This response is made, or it is refused for this reason. Out of memory says nothing.
 abbrev pub Reauthorizes : Outcome Response → Result PartialResponse ReauthorizationError → Type 0
 Reauthorizes o (Ok r) = o ≡ makes_it (response_seen r)
 Reauthorizes o (Err e) = (other : Refusal) → is_again_memory e ≡ false → o ≡ refuses (refused_or other e)

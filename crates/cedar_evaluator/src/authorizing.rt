@@ -68,7 +68,7 @@ impl<'a, T: FunctionTable> Authorizer<'a, T> {
     }
 
     /// The answer to the request by these policies, over these entities, where each residual counts as an error. Where nothing is unknown,
-    /// everything is loaded and the policies are within the limit, it is the answer by what the policies mean. Answers want of memory.
+    /// everything is loaded and the policies are within the limit, it is the answer by what the policies mean. Fails only when out of memory.
     pub fn is_authorized(
         &self,
         alloc: Global,
@@ -84,7 +84,7 @@ impl<'a, T: FunctionTable> Authorizer<'a, T> {
     }
 
     /// What is left of these policies for the request, over these entities. It holds in every completion, and a decision is owed where what
-    /// is known forces it. Answers want of memory.
+    /// is known forces it. Fails only when out of memory.
     pub fn is_authorized_core(
         &self,
         alloc: Global,

@@ -37,7 +37,7 @@ impl Drop for ReauthorizationError {
 }
 
 impl ReauthorizationError {
-    /// Whether it is want of memory.
+    /// Whether it is out of memory.
     pub fn is_out_of_memory(&self) -> bool
         ensures { result ≡ is_again_memory self.now }
     {

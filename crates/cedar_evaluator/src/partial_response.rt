@@ -104,7 +104,7 @@ impl PartialResponse {
     ghost use Rattle.cedar_evaluator.specs.Scopes.{scope_for};
 
     /// The response of these groups, errors and request. An id that is repeated in a group keeps its place, with what stands last under
-    /// it. Answers want of memory.
+    /// it. Fails only when out of memory.
     pub fn new(
         alloc: Global,
         true_permits: Vec<(PolicyID, Rc<Annotations>)>,
@@ -169,7 +169,7 @@ impl PartialResponse {
         &self.request
     }
 
-    /// The answer where each residual counts as an error. Answers want of memory.
+    /// The answer where each residual counts as an error. Fails only when out of memory.
     pub fn concretize(self, alloc: Global) -> Result<Response, AllocError>
         ensures { IfOk result (λ a. answer_of a ≡ concretize (response_seen self)) }
     {
@@ -266,7 +266,7 @@ impl PartialResponse {
         met_limit(&self.errors)
     }
 
-    /// The policies that are satisfied, permits first. Answers want of memory.
+    /// The policies that are satisfied, permits first. Fails only when out of memory.
     pub fn definitely_satisfied(&self, alloc: Global) -> Result<Vec<Policy>, AllocError>
         ensures { IfOk result (λ ps. map policy_of ps.items ≡ definitely_satisfied (response_seen self.now)) }
     {
@@ -286,7 +286,7 @@ impl PartialResponse {
         Ok(policies)
     }
 
-    /// The ids of the policies that erred, permits first. Answers want of memory.
+    /// The ids of the policies that erred, permits first. Fails only when out of memory.
     pub fn definitely_errored(&self, alloc: Global) -> Result<Vec<&PolicyID>, AllocError>
         ensures { IfOk result (λ ids. map (λ i. id_text i.now) ids.items ≡ definitely_errored (response_seen self.now)) }
     {
@@ -296,7 +296,7 @@ impl PartialResponse {
         Ok(ids)
     }
 
-    /// The policies that may determine the decision. Answers want of memory.
+    /// The policies that may determine the decision. Fails only when out of memory.
     pub fn may_be_determining(&self, alloc: Global) -> Result<Vec<Policy>, AllocError>
         ensures { IfOk result (λ ps. map policy_of ps.items ≡ may_be_determining (response_seen self.now)) }
     {
@@ -322,7 +322,7 @@ impl PartialResponse {
         Ok(policies)
     }
 
-    /// The policies that determine the decision whatever the unknowns are. Answers want of memory.
+    /// The policies that determine the decision whatever the unknowns are. Fails only when out of memory.
     pub fn must_be_determining(&self, alloc: Global) -> Result<Vec<Policy>, AllocError>
         ensures { IfOk result (λ ps. map policy_of ps.items ≡ must_be_determining (response_seen self.now)) }
     {
@@ -332,7 +332,7 @@ impl PartialResponse {
         Ok(policies)
     }
 
-    /// The policies of which an expression is left, permits first. Answers want of memory.
+    /// The policies of which an expression is left, permits first. Fails only when out of memory.
     pub fn nontrivial_residuals(&self, alloc: Global) -> Result<Vec<Policy>, AllocError>
         ensures { IfOk result (λ ps. map policy_of ps.items ≡ nontrivial_residuals (response_seen self.now)) }
     {
@@ -342,7 +342,7 @@ impl PartialResponse {
         Ok(policies)
     }
 
-    /// The ids of the policies of which an expression is left, permits first. Answers want of memory.
+    /// The ids of the policies of which an expression is left, permits first. Fails only when out of memory.
     pub fn nontrivial_residual_ids(&self, alloc: Global) -> Result<Vec<&PolicyID>, AllocError>
         ensures { IfOk result (λ ids. map (λ i. id_text i.now) ids.items ≡ nontrivial_residual_ids (response_seen self.now)) }
     {
@@ -352,7 +352,7 @@ impl PartialResponse {
         Ok(ids)
     }
 
-    /// The forbids of which an expression is left. Answers want of memory.
+    /// The forbids of which an expression is left. Fails only when out of memory.
     pub fn nontrivial_forbids(&self, alloc: Global) -> Result<Vec<Policy>, AllocError>
         ensures { IfOk result (λ ps. map policy_of ps.items ≡ nontrivial_forbids (response_seen self.now)) }
     {
@@ -361,7 +361,7 @@ impl PartialResponse {
         Ok(policies)
     }
 
-    /// All policies by what is left of them: permits true, false and residual, and then forbids so. Answers want of memory.
+    /// All policies by what is left of them: permits true, false and residual, and then forbids so. Fails only when out of memory.
     pub fn all_residuals(&self, alloc: Global) -> Result<Vec<Policy>, AllocError>
         ensures { IfOk result (λ ps. map policy_of ps.items ≡ all_residuals (response_seen self.now)) }
     {
@@ -386,7 +386,7 @@ impl PartialResponse {
     }
 
     /// The policy of this id by what is left of it, if there is one: permits first, and of each effect the residual ones, the true,
-    /// the false. Answers want of memory.
+    /// the false. Fails only when out of memory.
     pub fn get(&self, alloc: Global, id: &PolicyID) -> Result<Option<Policy>, AllocError>
         ensures { IfOk result (λ o. option_map policy_of o ≡ get (response_seen self.now) (id_text id.now)) }
     {

@@ -37,7 +37,7 @@ impl Replace for BoundSlots<'_> {
 }
 
 // The expression with the uids that slots are bound to in the place of the slots, made anew through the constructors; a slot that isn't
-// bound stays. Answers want of memory.
+// bound stays. Fails only when out of memory.
 pub(crate) fn bind_slots(alloc: Global, e: &Expr, slots: &SlotEnv) -> Result<Expr, AllocError>
     ensures { IfOk result (λ r. tree_of r ≡ slots_bound (binding_of (bindings_of slots.now)) (tree_of e.now)) }
 {

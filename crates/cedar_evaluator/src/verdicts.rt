@@ -36,7 +36,7 @@ pub(crate) enum Verdict {
     Erred(EvaluationError),
 }
 
-// What is left of the policy's condition, with its slots bound in it. Answers want of memory.
+// What is left of the policy's condition, with its slots bound in it. Fails only when out of memory.
 pub(crate) fn verdict_on<T: FunctionTable>(
     alloc: Global,
     evaluator: &Evaluator<'_, T>,
@@ -50,7 +50,7 @@ pub(crate) fn verdict_on<T: FunctionTable>(
     }
 }
 
-// A truth value, or a residual with these slots bound in it. Answers want of memory.
+// A truth value, or a residual with these slots bound in it. Fails only when out of memory.
 fn kept(alloc: Global, left: Either<bool, Expr>, slots: &SlotEnv) -> Result<Verdict, AllocError>
     ensures { (l : ModelLeft) → IsVerdict l (Ok left) → IfOk result (IsLeft (with_residual (slots_bound (binding_of (bindings_of slots.now))) l)) }
 {
@@ -67,7 +67,7 @@ fn settled(b: bool) -> Verdict
     if b { Verdict::True } else { Verdict::False }
 }
 
-// An error. Answers want of memory.
+// An error. Fails only when out of memory.
 fn erred(error: EvaluationError) -> Result<Verdict, AllocError>
     ensures { (f : Tree → Tree) (l : ModelLeft) → IsVerdict l (Err error) → IfOk result (IsLeft (with_residual f l)) }
 {

@@ -8,7 +8,7 @@ use std::alloc::Global;
 // Goes over the rows of the texts, each of which begins with a `#`, and gives the first that says something else, with what it says;
 // nothing where all hold. A row is a command, or several with ` ; ` between them, and, behind ` : `, what they say. A command's first word
 // is its verb; the module of each verb says what it does. A row that begins with `#` clears the desk, and one that begins with `-` is a
-// remark. Fails for want of memory.
+// remark. Fails when out of memory.
 pub fn first_wrong(alloc: Global, table: &Extensions<'_>, texts: &[&str]) -> Made<String> {
     let mut desk = Desk::new(alloc);
     for rows in texts {

@@ -165,7 +165,7 @@ request User::a Action::view Doc::d ; kind : User Action::"view" Doc
 "##;
 
 /// The first row that says something else, with what it says; nothing where all hold. `yes` is always true, and `fail` always fails.
-/// Fails for want of memory.
+/// Fails when out of memory.
 #[tactic(auto, using(crate::proofs::Alike::fails_alike))]
 pub fn wrong_row(alloc: Global) -> Made<String> {
     let style = CallStyle::FunctionStyle;

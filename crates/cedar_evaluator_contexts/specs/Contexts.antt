@@ -23,7 +23,7 @@ use Rattle.cedar_evaluator_requests.specs.Views.{context_of}
 use Rattle.cedar_evaluator_requests.specs.declared.context.Context as code
 use Rattle.cedar_evaluator_restricted_exprs.specs.Read.{fields_read}
 
--- It stopped so. Want of memory says nothing.
+-- It stopped so. Out of memory says nothing.
 abbrev pub StoppedBy : Left → EvaluationError → Type 0
 StoppedBy l e = (other : Stop) → is_memory e ≡ false → l ≡ stopped (stop_or other e)
 
@@ -33,7 +33,7 @@ IsLeftOfRecord (value_left m) = IsSome (context_from (value_left m))
 IsLeftOfRecord (residual r) = IsSome (context_from (residual r)) × (has_unknown r ≡ true) × (is_restricted r ≡ true)
 IsLeftOfRecord (stopped s) = Unit {0}
 
--- What is left is this context. It is refused only where it isn't left of a record, or for want of memory.
+-- What is left is this context. It is refused only where it isn't left of a record, or when out of memory.
 abbrev pub Becomes : Left → Result code.Context EvaluationError → Type 0
 Becomes l (Ok c) = context_from l ≡ Some (context_of c)
 Becomes l (Err e) = is_memory e ≡ false → IsLeftOfRecord l → ⊥
@@ -43,7 +43,7 @@ abbrev pub Evaluates : Tree → Left → Result code.Context EvaluationError →
 Evaluates t l (Ok c) = context_from l ≡ Some (context_of c)
 Evaluates t l (Err e) = IsSome (fields_read t) → StoppedBy l e
 
--- The expression is a record, and the context what is left of it; or it is none, or its evaluation stops so. Want of memory says nothing.
+-- The expression is a record, and the context what is left of it; or it is none, or its evaluation stops so. Out of memory says nothing.
 abbrev pub CreatesOfExpr : {C : Type 0} → (C → Context) → Tree → Left → Result C ContextCreationError → Type 0
 CreatesOfExpr seen t l (Ok c) = IsSome (fields_read t) × (context_from l ≡ Some (seen c))
 CreatesOfExpr seen t l (Err OutOfMemory) = Unit {0}
@@ -64,7 +64,7 @@ CreatesOfPairs seen ps l (Err (NotARecord e)) = ⊥
 CreatesOfPairs seen ps l (Err (Evaluation e)) = (repeated_name ps ≡ None) × StoppedBy l e
 CreatesOfPairs seen ps l (Err (ExpressionConstruction e)) = RepeatsIn ps e
 
--- The outcome is this context, or it is refused since the evaluation stops so. Want of memory says nothing.
+-- The outcome is this context, or it is refused since the evaluation stops so. Out of memory says nothing.
 abbrev pub Substitutes : {C : Type 0} → (C → Context) → model.Outcome Context → Result C EvaluationError → Type 0
 Substitutes seen o (Ok c) = o ≡ makes_it (seen c)
 Substitutes seen o (Err e) = (other : Stop) → is_memory e ≡ false → o ≡ refuses (context_stops (stop_or other e))

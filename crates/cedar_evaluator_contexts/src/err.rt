@@ -82,7 +82,7 @@ impl Drop for ConcretizationError {
 }
 
 impl ConcretizationError {
-    /// Whether it is want of memory.
+    /// Whether it is out of memory.
     pub fn is_out_of_memory(&self) -> bool
         ensures { result ≡ is_request_memory self.now }
     {

@@ -122,7 +122,7 @@ pub handed_on : (p : Pieces) (e : EvaluationError) (r : Result (Vec (PartialValu
 handed_on p e (Ok vs) h k = absurd h
 handed_on p e (Err y) h k = λ other m. k other (subst (λ z. is_memory z ≡ false) h m) ∙ ap (λ z. halted (stop_or other z)) (sym h)
 
--- want of memory says nothing
+-- out of memory says nothing
 pub says_nothing : (p : Pieces) (e : EvaluationError) (r : Result (Vec (PartialValue ExtValue) Global) EvaluationError) → is_memory e ≡ true → IsErrAnd r (λ y. y ≡ e) → ArePieces p r
 says_nothing p e r q h = handed_on p e r h (λ other m. absurd (cc))
 

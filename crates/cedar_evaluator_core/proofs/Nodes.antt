@@ -50,7 +50,7 @@ IsLeft part l = (m : Left) → Leaves m part → m ≡ l
 abbrev pub Stopped : Answer → EvaluationError → Type 0
 Stopped part e = (l : Left) → Leaves l part → (x y : Left) (other : Tree → Left) → Leaves (on_value l (picks x y) other) (Err e)
 
--- want of memory says nothing
+-- out of memory says nothing
 pub says_nothing : (l : Left) (e : EvaluationError) → is_memory e ≡ true → Leaves l (Err e)
 says_nothing l e h = λ other m. absurd (cc)
 

@@ -33,7 +33,7 @@ pub record IsCompletion (w : World) (s : Scope) (t : Tree) : Type 0 where
 
 -- What is answered stands for the expression in this world. A value is what the expression means. A residual means an equal value where
 -- the expression means a value, and errs where it errs; its unknowns fit too. With an error the expression errs, perhaps otherwise; but
--- want of memory and the limit on the depth say nothing.
+-- out of memory and the limit on the depth say nothing.
 abbrev pub StandsIn : World → Tree → Result (PartialValue ExtValue) EvaluationError → Type 0
 StandsIn w t (Ok (partial.Value v)) = Means w t (val (bare extension_of v))
 StandsIn w t (Ok (partial.Residual e)) = ((o : Res V) → Means w t o → MeansLike w (tree_of e) o) × FitsAnnotations w (tree_of e)
@@ -47,7 +47,7 @@ pub record IsWithin (s : Scope) (n : ℕ) (t : Tree) : Type 0 where
   pub fits : FitsAnnotations (known_world s) t
   pub within : nesting t ≤ n
 
--- This outcome is answered. Want of memory says nothing.
+-- This outcome is answered. Out of memory says nothing.
 abbrev pub IsOutcomeIn : Res V → Result (PartialValue ExtValue) EvaluationError → Type 0
 IsOutcomeIn (val v) (Ok (partial.Value w)) = bare extension_of w ≡ v
 IsOutcomeIn (val v) (Ok (partial.Residual e)) = ⊥

@@ -66,23 +66,23 @@ abbrev pub left_by : Stop → EvaluationError → Left
 left_by other (NonValue e) = residual (tree_of e.expr)
 left_by other e = stopped (stop_or other e)
 
--- This value is left; or it stopped so, or a residual is left. Want of memory says nothing.
+-- This value is left; or it stopped so, or a residual is left. Out of memory says nothing.
 abbrev pub IsValueOf : Left → Result (Value ExtValue) EvaluationError → Type 0
 IsValueOf l (Ok v) = l ≡ value_left (made extension_of v)
 IsValueOf l (Err e) = (other : Stop) → is_memory e ≡ false → l ≡ left_by other e
 
--- This truth value is left; or it stopped so, or a residual is left. Want of memory says nothing.
+-- This truth value is left; or it stopped so, or a residual is left. Out of memory says nothing.
 abbrev pub IsTruthOf : Left → Result Bool EvaluationError → Type 0
 IsTruthOf l (Ok b) = l ≡ truth_left b
 IsTruthOf l (Err e) = (other : Stop) → is_memory e ≡ false → l ≡ left_by other e
 
--- This truth value, or this residual, is left, or it stopped so. Want of memory says nothing.
+-- This truth value, or this residual, is left, or it stopped so. Out of memory says nothing.
 abbrev pub IsVerdict : Left → Result (Either Bool (Expr Unit)) EvaluationError → Type 0
 IsVerdict l (Ok (either.Left b)) = l ≡ truth_left b
 IsVerdict l (Ok (either.Right e)) = l ≡ residual (tree_of e)
 IsVerdict l (Err e) = (other : Stop) → is_memory e ≡ false → l ≡ stopped (stop_or other e)
 
--- The outcome is this. Want of memory says nothing.
+-- The outcome is this. Out of memory says nothing.
 abbrev pub IsMeaningOf : Res V → Result (Value ExtValue) EvaluationError → Type 0
 IsMeaningOf (val v) (Ok w) = bare extension_of w ≡ v
 IsMeaningOf (val v) (Err e) = is_memory e ≡ true

@@ -27,7 +27,7 @@ use Rattle.cedar_evaluator_core.specs.declared.parts.Parted.TheVariants as parte
 abbrev pub parts_of : List (PartialValue ExtValue) → List (Part Made)
 parts_of vs = map (part_of extension_of) vs
 
--- These are the pieces, or it stopped so. Want of memory says nothing.
+-- These are the pieces, or it stopped so. Out of memory says nothing.
 abbrev pub ArePieces : Pieces → Result (Vec (PartialValue ExtValue) Global) EvaluationError → Type 0
 ArePieces p (Ok vs) = p ≡ pieces (parts_of vs.items)
 ArePieces p (Err e) = (other : Stop) → is_memory e ≡ false → p ≡ halted (stop_or other e)
@@ -46,7 +46,7 @@ abbrev pub onto : List (Part Made) → Pieces → Pieces
 onto [] r = r
 onto (p ∷ ps) r = with_piece (tag_left p) (onto ps r)
 
--- These are the parts so far and what is left of one more, or it stopped so. Want of memory says nothing.
+-- These are the parts so far and what is left of one more, or it stopped so. Out of memory says nothing.
 abbrev pub IsLonger : List (PartialValue ExtValue) → Left → Result (Vec (PartialValue ExtValue) Global) EvaluationError → Type 0
 IsLonger done l (Ok more) = (rest : Pieces) → onto (parts_of more.items) rest ≡ onto (parts_of done) (with_piece l rest)
 IsLonger done l (Err e) = (other : Stop) → is_memory e ≡ false → l ≡ stopped (stop_or other e)

@@ -24,13 +24,13 @@ abbrev pub is_lookup_memory : ExtensionFunctionLookupError → Bool
 is_lookup_memory lookup.OutOfMemory = true
 is_lookup_memory (lookup.FuncDoesNotExist e) = false
 
--- whether the error is want of memory
+-- whether the error is out of memory
 abbrev pub is_memory : EvaluationError → Bool
 is_memory OutOfMemory = true
 is_memory (FailedExtensionFunctionLookup e) = is_lookup_memory e
 is_memory e = false
 
--- Why an evaluation stopped. Want of memory, and that a residual has no value, are no stops of the model: of those it is the other.
+-- Why an evaluation stopped. Out of memory, and that a residual has no value, are no stops of the model: of those it is the other.
 abbrev pub stop_or : Stop → EvaluationError → Stop
 stop_or other OutOfMemory = other
 stop_or other (NonValue e) = other
@@ -55,17 +55,17 @@ cause_of e = stops (stop_or limit e)
 abbrev pub left_seen : PartialValue ExtValue → Left
 left_seen p = tag_left (part_of extension_of p)
 
--- This is left, or it stopped so. Want of memory says nothing.
+-- This is left, or it stopped so. Out of memory says nothing.
 abbrev pub Leaves : Left → Result (PartialValue ExtValue) EvaluationError → Type 0
 Leaves l (Ok p) = l ≡ left_seen p
 Leaves l (Err e) = (other : Stop) → is_memory e ≡ false → l ≡ stopped (stop_or other e)
 
--- This value is left, or it stopped so. Want of memory says nothing.
+-- This value is left, or it stopped so. Out of memory says nothing.
 abbrev pub Gives : Left → Result (Value ExtValue) EvaluationError → Type 0
 Gives l (Ok v) = l ≡ value_left (made extension_of v)
 Gives l (Err e) = (other : Stop) → is_memory e ≡ false → l ≡ stopped (stop_or other e)
 
--- The expression is this tree. There is no error but want of memory.
+-- The expression is this tree. There is no error but out of memory.
 abbrev pub IsTree : Tree → Result (Expr Unit) EvaluationError → Type 0
 IsTree t (Ok e) = tree_of e ≡ t
 IsTree t (Err e) = is_memory e ≡ true

@@ -17,7 +17,7 @@ abbrev pub overflow_place : IntegerOverflowError → Option Loc
 overflow_place (overflow.BinaryOp e) = e.source_loc
 overflow_place (overflow.UnaryOp e) = e.source_loc
 
--- the place of an error: want of memory has none
+-- the place of an error: out of memory has none
 abbrev pub error_place : EvaluationError → Option Loc
 error_place error.OutOfMemory = None
 error_place (error.EntityDoesNotExist e) = e.source_loc

@@ -22,7 +22,7 @@ use Rattle.cedar_expr_functions.specs.declared.err.CallFault.TheVariants.{OutOfM
 use Rattle.cedar_expr_functions.specs.declared.extensions.Extensions.{Extensions}
 use Rattle.cedar_evaluator_model.specs.Scope.{MadeCalled, makes, faults, leaves_unknown}
 
--- A call's outcome is this answer, its value with the call that makes it. Want of memory is none, nor is a refusal of the arguments.
+-- A call's outcome is this answer, its value with the call that makes it. Out of memory is none, nor is a refusal of the arguments.
 abbrev pub IsAnswer : MadeCalled → Result ExtensionOutputValue CallFault → Type 0
 IsAnswer c (Ok (Known v)) = c ≡ makes (made extension_of v)
 IsAnswer c (Ok (Unknown u)) = c ≡ leaves_unknown (unknown_of u).name

@@ -8,7 +8,7 @@ use Rattle.cedar_evaluator_model.specs.Steps.{picks}
 use Rattle.cedar_evaluator_errors.specs.Outcomes.{is_memory, stop_or}
 use Rattle.cedar_evaluator_errors.specs.declared.err.EvaluationError.{EvaluationError}
 
--- Which truth value it is, or the error that it is none. Want of memory says nothing.
+-- Which truth value it is, or the error that it is none. Out of memory says nothing.
 abbrev pub IsTruth : Made → Result Bool EvaluationError → Type 0
 IsTruth m (Ok b) = m ≡ made_prim (truth b)
 IsTruth m (Err e) = (x y : Left) (other : Stop) → is_memory e ≡ false → picks x y m ≡ stopped (stop_or other e)

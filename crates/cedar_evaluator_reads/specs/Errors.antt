@@ -23,7 +23,7 @@ use Rattle.cedar_evaluator_errors.specs.Outcomes.{is_memory, stop_or}
 use Rattle.cedar_evaluator_errors.specs.declared.err.EvaluationError.{EvaluationError}
 use Rattle.cedar_evaluator_errors.specs.declared.err.EvaluationError.TheVariants.{TypeError, EntityAttrDoesNotExist, RecordAttrDoesNotExist}
 
--- it is an error of this kind, or want of memory
+-- it is an error of this kind, or out of memory
 abbrev pub StopsWith : Fault → EvaluationError → Type 0
 StopsWith f e = (other : Stop) → is_memory e ≡ false → errs f ≡ stopped (stop_or other e)
 

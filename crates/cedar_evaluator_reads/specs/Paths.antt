@@ -10,7 +10,7 @@ use Rattle.cedar_evaluator_errors.specs.declared.err.EvaluationError.{Evaluation
 use Rattle.cedar_evaluator_reads.specs.declared.paths.Step.{Step}
 use Rattle.cedar_evaluator_reads.specs.declared.paths.Step.TheVariants as step
 
--- What is left comes of the value that the step found, or is this, or it stopped so. Want of memory says nothing.
+-- What is left comes of the value that the step found, or is this, or it stopped so. Out of memory says nothing.
 abbrev pub Goes : Left → (Made → Left) → Result Step EvaluationError → Type 0
 Goes l next (Ok (step.On v)) = l ≡ next (made extension_of v.now)
 Goes l next (Ok (step.Done d)) = l ≡ left_seen d

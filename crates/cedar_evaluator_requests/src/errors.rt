@@ -46,7 +46,7 @@ pub fn push_without_value(
     Ok(())
 }
 
-/// Whether an evaluation met the limit on the depth, by one of these errors. Want of memory counts as met.
+/// Whether an evaluation met the limit on the depth, by one of these errors. Out of memory counts as met.
 pub fn met_limit(errors: &[AuthorizationError]) -> bool
     ensures { result ≡ list_any (λ e. is_limit (error_of e).cause) errors.now }
 {

@@ -75,7 +75,7 @@ fn concrete(desk: &mut Desk, said: &mut String) -> Made<()> {
     say_kept(alloc, said, kept(alloc, answer))
 }
 
-// How want of memory is told.
+// How out of memory is told.
 fn lacking(alloc: Global, said: &mut String) -> Made<()> {
     show(alloc, said, &ReauthorizationError::OutOfMemory)?;
     show(alloc, said, &ConcretizationError::OutOfMemory)

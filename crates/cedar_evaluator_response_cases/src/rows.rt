@@ -315,7 +315,7 @@ verdict 5 : type error: expected long, got bool
 limit 5 ; truth 1 : true
 limit 4 ; truth 1 : recursion limit reached
 limit 4 ; verdict 1 : recursion limit reached
-# want of memory
+# out of memory
 lacking : out of memory out of memory
 "##;
 
@@ -335,7 +335,7 @@ fn holds(desk: &mut Desk, table: &Extensions<'_>, row: &str, said: &mut String) 
     Ok(said.trim_start() == wanted)
 }
 
-/// The first row that says something else, with what it says; nothing where all hold. No function is known. Fails for want of memory.
+/// The first row that says something else, with what it says; nothing where all hold. No function is known. Fails when out of memory.
 pub fn wrong_row(alloc: Global) -> Made<String> {
     let table = Extensions::none(alloc);
     let mut desk = Desk::new(alloc);

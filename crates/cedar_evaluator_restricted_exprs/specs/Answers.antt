@@ -25,7 +25,7 @@ use Rattle.cedar_evaluator_model.specs.Scope.{MadeCalled, makes, faults, leaves_
 use Rattle.cedar_gate_model.specs.Bundle.{Functions}
 use Rattle.cedar_evaluator_restricted_exprs.specs.Alike.{answers_alike}
 
--- The answer of a call, its value with the call that makes it. Want of memory is none, nor is a refusal of the arguments.
+-- The answer of a call, its value with the call that makes it. Out of memory is none, nor is a refusal of the arguments.
 abbrev pub answer_made : Result ExtensionOutputValue CallFault → Option MadeCalled
 answer_made (Ok (Known v)) = Some (makes (made extension_of v))
 answer_made (Ok (Unknown u)) = Some (leaves_unknown (unknown_of u).name)

@@ -36,7 +36,7 @@ abbrev pub is_halted : Pieces → Bool
 is_halted (halted s) = true
 is_halted (pieces ps) = false
 
--- This is left, or the evaluation stopped. Want of memory says nothing.
+-- This is left, or the evaluation stopped. Out of memory says nothing.
 abbrev pub Leaves : Left → Result (PartialValue ExtValue) RestrictedFault → Type 0
 Leaves l (Ok p) = l ≡ left_seen p
 Leaves l (Err e) = e ≡ Stopped → is_stopped l ≡ true
@@ -44,7 +44,7 @@ Leaves l (Err e) = e ≡ Stopped → is_stopped l ≡ true
 abbrev pub parts_of : List (PartialValue ExtValue) → List (Part Made)
 parts_of vs = map (part_of extension_of) vs
 
--- The pieces of several expressions are these parts in order, or the evaluation stopped. Want of memory says nothing.
+-- The pieces of several expressions are these parts in order, or the evaluation stopped. Out of memory says nothing.
 abbrev pub ArePieces : Pieces → Result (Vec (PartialValue ExtValue) Global) RestrictedFault → Type 0
 ArePieces p (Ok vs) = p ≡ pieces (parts_of vs.items)
 ArePieces p (Err e) = e ≡ Stopped → is_halted p ≡ true

@@ -36,12 +36,12 @@ refused_here t = option_map (λ f. (feature_text f, t)) (feature_here t)
 abbrev pub refused : Tree → Option (Text × Tree)
 refused t = first_found refused_here (subexpressions t)
 
--- The expression isn't restricted, and the refusal names the first part that is refused. Want of memory says nothing.
+-- The expression isn't restricted, and the refusal names the first part that is refused. Out of memory says nothing.
 abbrev pub Refuses : Tree → RestrictedExpressionError → Type 0
 Refuses t OutOfMemory = Unit {0}
 Refuses t (InvalidRestrictedExpression e) = (is_restricted t ≡ false) × (refused t ≡ Some (rc_str_bytes e.feature, tree_of e.expr))
 
--- The refusal keeps the first part that is refused, whatever it is called. Want of memory says nothing.
+-- The refusal keeps the first part that is refused, whatever it is called. Out of memory says nothing.
 abbrev pub RefusesResidual : Tree → PartialValueToRestrictedExprError → Type 0
 RefusesResidual t to_restricted.OutOfMemory = Unit {0}
 RefusesResidual t (to_restricted.NontrivialResidual e) = option_map (λ p. p.1) (refused t) ≡ Some (tree_of e)

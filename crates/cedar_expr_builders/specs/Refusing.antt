@@ -60,7 +60,7 @@ abbrev pub refusal : {M R : Type 0} → Result M R → Option R
 refusal (Ok m) = None
 refusal (Err r) = Some r
 
--- The fault is that refusal. Want of memory says nothing.
+-- The fault is that refusal. Out of memory says nothing.
 abbrev pub IsRefusal : {E R : Type 0} → (E → R) → Option R → BuildFault E → Type 0
 IsRefusal says r OutOfMemory = Unit {0}
 IsRefusal says r (Refused e) = r ≡ Some (says e)

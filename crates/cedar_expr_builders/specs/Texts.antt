@@ -5,7 +5,7 @@ use Rattle.cedar_expr_model.specs.Name.{Text}
 use Rattle.cedar_expr_builders.specs.declared.err.BuildFault.{BuildFault}
 use Rattle.cedar_expr_builders.specs.declared.err.BuildFault.TheVariants.{OutOfMemory, Refused}
 
--- want of memory by its words, a refusal by its own text
+-- out of memory by its words, a refusal by its own text
 abbrev pub fault_text : {E : Type 0} → (E → Option Text) → BuildFault E → Option Text
 fault_text own OutOfMemory = Some (codes "out of memory")
 fault_text own (Refused e) = own e

@@ -82,23 +82,23 @@ pub trait ExprBuilder: Clone + Drop {
     fn data(&self) -> &Self::Data
         ensures { result.now ≡ held self.now };
 
-    /// A literal. Answers want of memory.
+    /// A literal. Fails only when out of memory.
     fn val(self, alloc: Global, v: Literal) -> Result<Self::Expr, AllocError>
         ensures { IfOk result (λ r. means r ≡ steps.of_lit (literal_of v)) };
 
-    /// A variable of the request. Answers want of memory.
+    /// A variable of the request. Fails only when out of memory.
     fn var(self, alloc: Global, v: Var) -> Result<Self::Expr, AllocError>
         ensures { IfOk result (λ r. means r ≡ steps.of_var (var_of v)) };
 
-    /// An unknown. Answers want of memory.
+    /// An unknown. Fails only when out of memory.
     fn unknown(self, alloc: Global, u: Unknown) -> Result<Self::Expr, AllocError>
         ensures { IfOk result (λ r. means r ≡ steps.of_unknown (unknown_of u).name (unknown_of u).annotation) };
 
-    /// A slot. Answers want of memory.
+    /// A slot. Fails only when out of memory.
     fn slot(self, alloc: Global, s: SlotId) -> Result<Self::Expr, AllocError>
         ensures { IfOk result (λ r. means r ≡ steps.of_slot (slot_of s)) };
 
-    /// The choice between two expressions by a test, which are shared. Answers want of memory.
+    /// The choice between two expressions by a test, which are shared. Fails only when out of memory.
     fn ite_arc(
         self,
         alloc: Global,
@@ -108,15 +108,15 @@ pub trait ExprBuilder: Clone + Drop {
     ) -> Result<Self::Expr, AllocError>
         ensures { IfOk result (λ r. means r ≡ steps.of_choice (means test_expr.value) (means then_expr.value) (means else_expr.value)) };
 
-    /// The conjunction. Answers want of memory.
+    /// The conjunction. Fails only when out of memory.
     fn and(self, alloc: Global, e1: Self::Expr, e2: Self::Expr) -> Result<Self::Expr, AllocError>
         ensures { IfOk result (λ r. means r ≡ steps.of_both (means e1) (means e2)) };
 
-    /// The disjunction. Answers want of memory.
+    /// The disjunction. Fails only when out of memory.
     fn or(self, alloc: Global, e1: Self::Expr, e2: Self::Expr) -> Result<Self::Expr, AllocError>
         ensures { IfOk result (λ r. means r ≡ steps.of_either (means e1) (means e2)) };
 
-    /// An operator of one operand. Answers want of memory.
+    /// An operator of one operand. Fails only when out of memory.
     fn unary_app(
         self,
         alloc: Global,
@@ -125,7 +125,7 @@ pub trait ExprBuilder: Clone + Drop {
     ) -> Result<Self::Expr, AllocError>
         ensures { IfOk result (λ r. means r ≡ steps.of_unary (unary_op_of op) (means arg)) };
 
-    /// An operator of two operands. Answers want of memory.
+    /// An operator of two operands. Fails only when out of memory.
     fn binary_app(
         self,
         alloc: Global,
@@ -135,7 +135,7 @@ pub trait ExprBuilder: Clone + Drop {
     ) -> Result<Self::Expr, AllocError>
         ensures { IfOk result (λ r. means r ≡ steps.of_binary (binary_op_of op) (means arg1) (means arg2)) };
 
-    /// A call of a function. Refuses what the builder refuses, and answers want of memory.
+    /// A call of a function. Refuses what the builder refuses, and fails when out of memory.
     fn call_extension_fn(
         self,
         alloc: Global,
@@ -146,7 +146,7 @@ pub trait ExprBuilder: Clone + Drop {
         ensures allowed { OnOk result (refuses (plain_name_of fn_name) (map means args.items) ≡ None) }
         ensures refused { IfErr result (λ f. IsRefusal says (refuses (plain_name_of fn_name) (map means args.items)) f) };
 
-    /// The value of an attribute. Answers want of memory.
+    /// The value of an attribute. Fails only when out of memory.
     fn get_attr(
         self,
         alloc: Global,
@@ -155,7 +155,7 @@ pub trait ExprBuilder: Clone + Drop {
     ) -> Result<Self::Expr, AllocError>
         ensures { IfOk result (λ r. means r ≡ steps.of_get (means expr) (rc_str_bytes attr)) };
 
-    /// Whether an attribute is there. Answers want of memory.
+    /// Whether an attribute is there. Fails only when out of memory.
     fn has_attr(
         self,
         alloc: Global,
@@ -164,7 +164,7 @@ pub trait ExprBuilder: Clone + Drop {
     ) -> Result<Self::Expr, AllocError>
         ensures { IfOk result (λ r. means r ≡ steps.of_has (means expr) (rc_str_bytes attr)) };
 
-    /// Whether attributes are there, one after the other. Answers want of memory.
+    /// Whether attributes are there, one after the other. Fails only when out of memory.
     fn extended_has_attr(
         self,
         alloc: Global,
@@ -173,7 +173,7 @@ pub trait ExprBuilder: Clone + Drop {
     ) -> Result<Self::Expr, AllocError>
         ensures { IfOk result (λ r. means r ≡ steps.of_path (means expr) (rc_str_bytes attrs.value.head) (map rc_str_bytes attrs.value.tail.items)) };
 
-    /// Whether a text matches a pattern. Answers want of memory.
+    /// Whether a text matches a pattern. Fails only when out of memory.
     fn like(
         self,
         alloc: Global,
@@ -182,7 +182,7 @@ pub trait ExprBuilder: Clone + Drop {
     ) -> Result<Self::Expr, AllocError>
         ensures { IfOk result (λ r. means r ≡ steps.of_like (means expr) (pattern_of pattern)) };
 
-    /// Whether an entity is of a type. Answers want of memory.
+    /// Whether an entity is of a type. Fails only when out of memory.
     fn is_entity_type(
         self,
         alloc: Global,
@@ -191,11 +191,11 @@ pub trait ExprBuilder: Clone + Drop {
     ) -> Result<Self::Expr, AllocError>
         ensures { IfOk result (λ r. means r ≡ steps.of_is (means expr) (type_name_of entity_type)) };
 
-    /// A set, by its members. Answers want of memory.
+    /// A set, by its members. Fails only when out of memory.
     fn set(self, alloc: Global, exprs: Vec<Self::Expr>) -> Result<Self::Expr, AllocError>
         ensures { IfOk result (λ r. means r ≡ steps.of_set (map means exprs.items)) };
 
-    /// A record, by its fields, which are shared. Answers want of memory.
+    /// A record, by its fields, which are shared. Fails only when out of memory.
     fn record_arc(
         self,
         alloc: Global,
@@ -219,8 +219,8 @@ pub trait ExprBuilder: Clone + Drop {
         self.with_maybe_source_loc(Some(source_loc))
     }
 
-    /// A record, by pairs of names and expressions. Refuses a name that stands twice, whatever stands under it, and answers want
-    /// of memory.
+    /// A record, by pairs of names and expressions. Refuses a name that stands twice, whatever stands under it, and fails when
+    /// out of memory.
     fn record(
         self,
         alloc: Global,
@@ -235,7 +235,7 @@ pub trait ExprBuilder: Clone + Drop {
         Ok(self.record_arc(alloc, fields)?)
     }
 
-    /// The choice between two expressions by a test. Answers want of memory.
+    /// The choice between two expressions by a test. Fails only when out of memory.
     fn ite(
         self,
         alloc: Global,
@@ -251,21 +251,21 @@ pub trait ExprBuilder: Clone + Drop {
         self.ite_arc(alloc, test_expr, then_expr, else_expr)
     }
 
-    /// The negation of a truth value. Answers want of memory.
+    /// The negation of a truth value. Fails only when out of memory.
     fn not(self, alloc: Global, e: Self::Expr) -> Result<Self::Expr, AllocError>
         ensures { IfOk result (λ r. means r ≡ steps.of_unary negation (means e)) }
     {
         self.unary_app(alloc, UnaryOp::Not, e)
     }
 
-    /// Whether two values are equal. Answers want of memory.
+    /// Whether two values are equal. Fails only when out of memory.
     fn is_eq(self, alloc: Global, e1: Self::Expr, e2: Self::Expr) -> Result<Self::Expr, AllocError>
         ensures { IfOk result (λ r. means r ≡ steps.of_binary equal (means e1) (means e2)) }
     {
         self.binary_app(alloc, BinaryOp::Eq, e1, e2)
     }
 
-    /// Whether two values are not equal: the negation of `is_eq`. Answers want of memory.
+    /// Whether two values are not equal: the negation of `is_eq`. Fails only when out of memory.
     fn noteq(self, alloc: Global, e1: Self::Expr, e2: Self::Expr) -> Result<Self::Expr, AllocError>
         ensures { IfOk result (λ r. means r ≡ steps.of_unary negation (steps.of_binary equal (means e1) (means e2))) }
     {
@@ -273,21 +273,21 @@ pub trait ExprBuilder: Clone + Drop {
         self.not(alloc, e)
     }
 
-    /// Whether a value is below another. Answers want of memory.
+    /// Whether a value is below another. Fails only when out of memory.
     fn less(self, alloc: Global, e1: Self::Expr, e2: Self::Expr) -> Result<Self::Expr, AllocError>
         ensures { IfOk result (λ r. means r ≡ steps.of_binary less (means e1) (means e2)) }
     {
         self.binary_app(alloc, BinaryOp::Less, e1, e2)
     }
 
-    /// Whether a value is below another or equal to it. Answers want of memory.
+    /// Whether a value is below another or equal to it. Fails only when out of memory.
     fn lesseq(self, alloc: Global, e1: Self::Expr, e2: Self::Expr) -> Result<Self::Expr, AllocError>
         ensures { IfOk result (λ r. means r ≡ steps.of_binary less_or_equal (means e1) (means e2)) }
     {
         self.binary_app(alloc, BinaryOp::LessEq, e1, e2)
     }
 
-    /// Whether a value is above another: the negation of `lesseq`. Answers want of memory.
+    /// Whether a value is above another: the negation of `lesseq`. Fails only when out of memory.
     fn greater(
         self,
         alloc: Global,
@@ -300,7 +300,7 @@ pub trait ExprBuilder: Clone + Drop {
         self.not(alloc, e)
     }
 
-    /// Whether a value is above another or equal to it: the negation of `less`. Answers want of memory.
+    /// Whether a value is above another or equal to it: the negation of `less`. Fails only when out of memory.
     fn greatereq(
         self,
         alloc: Global,
@@ -313,49 +313,49 @@ pub trait ExprBuilder: Clone + Drop {
         self.not(alloc, e)
     }
 
-    /// The sum of two whole numbers. Answers want of memory.
+    /// The sum of two whole numbers. Fails only when out of memory.
     fn add(self, alloc: Global, e1: Self::Expr, e2: Self::Expr) -> Result<Self::Expr, AllocError>
         ensures { IfOk result (λ r. means r ≡ steps.of_binary plus (means e1) (means e2)) }
     {
         self.binary_app(alloc, BinaryOp::Add, e1, e2)
     }
 
-    /// The difference of two whole numbers. Answers want of memory.
+    /// The difference of two whole numbers. Fails only when out of memory.
     fn sub(self, alloc: Global, e1: Self::Expr, e2: Self::Expr) -> Result<Self::Expr, AllocError>
         ensures { IfOk result (λ r. means r ≡ steps.of_binary difference (means e1) (means e2)) }
     {
         self.binary_app(alloc, BinaryOp::Sub, e1, e2)
     }
 
-    /// The product of two whole numbers. Answers want of memory.
+    /// The product of two whole numbers. Fails only when out of memory.
     fn mul(self, alloc: Global, e1: Self::Expr, e2: Self::Expr) -> Result<Self::Expr, AllocError>
         ensures { IfOk result (λ r. means r ≡ steps.of_binary times (means e1) (means e2)) }
     {
         self.binary_app(alloc, BinaryOp::Mul, e1, e2)
     }
 
-    /// What the division of two whole numbers leaves, with the sign of the first. Answers out of memory.
+    /// What the division of two whole numbers leaves, with the sign of the first. Fails only when out of memory.
     fn rem(self, alloc: Global, e1: Self::Expr, e2: Self::Expr) -> Result<Self::Expr, AllocError>
         ensures { IfOk result (λ r. means r ≡ steps.of_binary remainder (means e1) (means e2)) }
     {
         self.binary_app(alloc, BinaryOp::Rem, e1, e2)
     }
 
-    /// The negation of a whole number. Answers want of memory.
+    /// The negation of a whole number. Fails only when out of memory.
     fn neg(self, alloc: Global, e: Self::Expr) -> Result<Self::Expr, AllocError>
         ensures { IfOk result (λ r. means r ≡ steps.of_unary minus (means e)) }
     {
         self.unary_app(alloc, UnaryOp::Neg, e)
     }
 
-    /// Whether an entity is another, or one of a set, or below it. Answers want of memory.
+    /// Whether an entity is another, or one of a set, or below it. Fails only when out of memory.
     fn is_in(self, alloc: Global, e1: Self::Expr, e2: Self::Expr) -> Result<Self::Expr, AllocError>
         ensures { IfOk result (λ r. means r ≡ steps.of_binary is_in (means e1) (means e2)) }
     {
         self.binary_app(alloc, BinaryOp::In, e1, e2)
     }
 
-    /// Whether a set has this member. Answers want of memory.
+    /// Whether a set has this member. Fails only when out of memory.
     fn contains(
         self,
         alloc: Global,
@@ -367,7 +367,7 @@ pub trait ExprBuilder: Clone + Drop {
         self.binary_app(alloc, BinaryOp::Contains, e1, e2)
     }
 
-    /// Whether a set has each member of another. Answers want of memory.
+    /// Whether a set has each member of another. Fails only when out of memory.
     fn contains_all(
         self,
         alloc: Global,
@@ -379,7 +379,7 @@ pub trait ExprBuilder: Clone + Drop {
         self.binary_app(alloc, BinaryOp::ContainsAll, e1, e2)
     }
 
-    /// Whether two sets have a member in common. Answers want of memory.
+    /// Whether two sets have a member in common. Fails only when out of memory.
     fn contains_any(
         self,
         alloc: Global,
@@ -391,14 +391,14 @@ pub trait ExprBuilder: Clone + Drop {
         self.binary_app(alloc, BinaryOp::ContainsAny, e1, e2)
     }
 
-    /// Whether a set has no member. Answers want of memory.
+    /// Whether a set has no member. Fails only when out of memory.
     fn is_empty(self, alloc: Global, e: Self::Expr) -> Result<Self::Expr, AllocError>
         ensures { IfOk result (λ r. means r ≡ steps.of_unary is_empty (means e)) }
     {
         self.unary_app(alloc, UnaryOp::IsEmpty, e)
     }
 
-    /// The value of an entity's tag. Answers want of memory.
+    /// The value of an entity's tag. Fails only when out of memory.
     fn get_tag(
         self,
         alloc: Global,
@@ -410,7 +410,7 @@ pub trait ExprBuilder: Clone + Drop {
         self.binary_app(alloc, BinaryOp::GetTag, expr, tag)
     }
 
-    /// Whether an entity has a tag. Answers want of memory.
+    /// Whether an entity has a tag. Fails only when out of memory.
     fn has_tag(
         self,
         alloc: Global,

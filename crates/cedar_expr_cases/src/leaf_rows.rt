@@ -138,7 +138,7 @@ made record b=1 a=2 b=3 : a 2 b 3 @3
 made shared b=1 a=2 b=3 : a 2 b 3 @3
 "#;
 
-/// The first row on leaves that says something else, with what it says; nothing where all hold. Fails out of memory.
+/// The first row on leaves that says something else, with what it says; nothing where all hold. Fails when out of memory.
 pub fn wrong_leaf_row(alloc: Global) -> Result<String, AllocError> {
     for row in ROWS.lines() {
         if let Some((verb, rest, wanted)) = parted(row) {

@@ -139,7 +139,7 @@ through x=true $x:Bool ! : true !
 faults : out of memory 5 out of memory
 "#;
 
-/// The first row that says something else, with what it says; nothing where all hold. Fails for want of memory.
+/// The first row that says something else, with what it says; nothing where all hold. Fails when out of memory.
 pub fn wrong_row(alloc: Global) -> Result<String, AllocError> {
     for row in ROWS.lines() {
         if let Some((verb, rest, wanted)) = parted(row) {

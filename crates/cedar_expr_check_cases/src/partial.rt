@@ -59,7 +59,7 @@ split value 1@3 | expr 2@2 : expressions 1 @3 2 @2
 texts : out of memory value contains a residual expression value contains a residual expression
 "#;
 
-/// The first row on partial values that says something else, with what it says; nothing where all hold. Fails for want of memory.
+/// The first row on partial values that says something else, with what it says; nothing where all hold. Fails when out of memory.
 pub fn wrong_partial_row(alloc: Global) -> Result<String, AllocError> {
     for row in ROWS.lines() {
         if let Some((verb, rest, wanted)) = parted(row) {

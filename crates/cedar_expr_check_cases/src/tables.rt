@@ -89,7 +89,7 @@ repeated : duplicate key `2`
 no_memory : out of memory out of memory out of memory out of memory out of memory
 "#;
 
-/// The first row on tables of functions that says something else, with what it says; nothing where all hold. Fails for want of memory.
+/// The first row on tables of functions that says something else, with what it says; nothing where all hold. Fails when out of memory.
 pub fn wrong_table_row(alloc: Global) -> Result<String, AllocError> {
     for case in CASES.split("\n\n") {
         let mut functions = Vec::new(alloc);

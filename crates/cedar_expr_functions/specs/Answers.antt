@@ -22,7 +22,7 @@ use Rattle.cedar_expr_functions.specs.declared.extension.ExtensionOutputValue.Th
 use Rattle.cedar_expr_functions.specs.declared.err.CallFault.{CallFault}
 use Rattle.cedar_expr_functions.specs.declared.err.CallFault.TheVariants.{OutOfMemory, WrongNumArguments, ArgumentType, Fault}
 
--- The answer of a call: a value, an unknown that it leaves, or the failure of an extension. Want of memory is none, nor is a
+-- The answer of a call: a value, an unknown that it leaves, or the failure of an extension. Out of memory is none, nor is a
 -- refusal of the arguments.
 abbrev pub answer : Result ExtensionOutputValue CallFault → Option Called
 answer (Ok (Known v)) = Some (gives (bare extension_of v))

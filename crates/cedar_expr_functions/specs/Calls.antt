@@ -34,7 +34,7 @@ wrong_call ss t = None
 abbrev pub first_wrong_call : List Signature → Tree → Option WrongCall
 first_wrong_call ss t = first_found (wrong_call ss) (subexpressions t)
 
--- The fault is this. Want of memory says nothing.
+-- The fault is this. Out of memory says nothing.
 abbrev pub IsWrongCall : Option WrongCall → ExprValidationError → Type 0
 IsWrongCall o OutOfMemory = Unit {0}
 IsWrongCall o (FuncDoesNotExist f) = o ≡ Some (no_function (plain_name_of f))

@@ -14,12 +14,12 @@ module _ {K X : Type 0} (cmp : K → K → Ordering) where
   pub record IsMapOf (ps : List (K × X)) (m : BTreeMap K X) : Type 0 where
     pub finds : (k : K) → get cmp m k ≡ lookup (eq_by_cmp cmp k) ps
 
-  -- The key is in the map. Want of memory says nothing.
+  -- The key is in the map. Out of memory says nothing.
   abbrev pub RefusesKey : BTreeMap K X → K → CollectError K → Type 0
   RefusesKey m k OutOfMemory = Unit {0}
   RefusesKey m k (Repeated q) = IsSome (get cmp m k) × (q ≡ k)
 
--- The key is the first that is met again. Want of memory says nothing.
+-- The key is the first that is met again. Out of memory says nothing.
 abbrev pub RefusesKeys : {K : Type 0} → (K → K → Ordering) → List K → CollectError K → Type 0
 RefusesKeys cmp ks OutOfMemory = Unit {0}
 RefusesKeys cmp ks (Repeated q) = repeated (eq_by_cmp cmp) ks ≡ Some q

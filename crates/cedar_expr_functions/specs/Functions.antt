@@ -38,7 +38,7 @@ pub record IsAnsweredBy {B : _} {F : _} {g : _} (f : ExtensionFunction B F g) (a
 pub record AgreesWithModel {B : _} {F : _} {g : _} (f : ExtensionFunction B F g) (vs : List V) (r : Result ExtensionOutputValue CallFault) : Type 0 where
   pub agreeing : (answers : List V → Called) → IsAnsweredBy f answers → agree (Some (answers vs)) (answer r) ≡ true
 
--- What was asked of the function and is handed on: want of memory and refusals of the arguments weren't.
+-- What was asked of the function and is handed on: out of memory and refusals of the arguments weren't.
 abbrev pub IfAsked : (Result ExtensionOutputValue CallFault → Type 0) → Result ExtensionOutputValue CallFault → Type 0
 IfAsked P (Ok o) = P (Ok o)
 IfAsked P (Err OutOfMemory) = Unit {0}

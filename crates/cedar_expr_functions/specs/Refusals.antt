@@ -19,31 +19,31 @@ use Rattle.cedar_expr_functions.specs.declared.err.CallFault.{CallFault}
 use Rattle.cedar_expr_functions.specs.declared.err.CallFault.TheVariants.{OutOfMemory, WrongNumArguments, ArgumentType, Fault}
 
 -- The fault is there in a call of this function on these arguments: it doesn't take as many, or the first that isn't of its
--- type isn't, or it took them and failed. Want of memory says nothing.
+-- type isn't, or it took them and failed. Out of memory says nothing.
 abbrev pub RefusesCall : Signature → List V → CallFault → Type 0
 RefusesCall s vs OutOfMemory = Unit {0}
 RefusesCall s vs (WrongNumArguments f m n) = (takes_count s (length vs) ≡ false) × (plain_name_of f ≡ s.name) × (m ≡ length s.parameters) × (n ≡ length vs)
 RefusesCall s vs (ArgumentType a b) = (takes_count s (length vs) ≡ true) × (first_mistyped s.parameters vs ≡ Some (core_of a, core_of b))
 RefusesCall s vs (Fault e m a) = takes s vs ≡ true
 
--- The table has no function of this name. Want of memory says nothing.
+-- The table has no function of this name. Out of memory says nothing.
 abbrev pub RefusesLookup : Table → Name → Option Loc → ExtensionFunctionLookupError → Type 0
 RefusesLookup x n l lookup.OutOfMemory = Unit {0}
 RefusesLookup x n l (lookup.FuncDoesNotExist e) = (signature_of x n ≡ None) × (plain_name_of e.name ≡ n) × (e.source_loc ≡ l)
 
--- The fault is that of the functions. Want of memory says nothing.
+-- The fault is that of the functions. Out of memory says nothing.
 abbrev pub RefusesTable : List Signature → ExtensionInitializationError → Type 0
 RefusesTable ss initialization.OutOfMemory = Unit {0}
 RefusesTable ss (initialization.FuncMultiplyDefined e) = table_fault ss ≡ Some (repeated_function (plain_name_of e.name))
 RefusesTable ss (initialization.MultipleConstructorsSameSignature e) = table_fault ss ≡ Some (repeated_constructor (core_of e.return_type))
 
--- A name stands twice among these. Want of memory says nothing.
+-- A name stands twice among these. Out of memory says nothing.
 abbrev pub RefusesNames : List Name → ExtensionInitializationError → Type 0
 RefusesNames ns initialization.OutOfMemory = Unit {0}
 RefusesNames ns (initialization.FuncMultiplyDefined e) = repeated name_eq ns ≡ Some (plain_name_of e.name)
 RefusesNames ns (initialization.MultipleConstructorsSameSignature e) = ⊥
 
--- A type stands twice among these. Want of memory says nothing.
+-- A type stands twice among these. Out of memory says nothing.
 abbrev pub RefusesConstructors : List CoreType → ExtensionInitializationError → Type 0
 RefusesConstructors ts initialization.OutOfMemory = Unit {0}
 RefusesConstructors ts (initialization.FuncMultiplyDefined e) = ⊥

@@ -25,14 +25,14 @@ pub trait CheckExpr {
     ghost tree: { Self → Tree };
 
     /// Whether each call names a function of the table and has a right count of arguments. Refuses the first that doesn't, a node
-    /// before its children, and children in order, and answers want of memory.
+    /// before its children, and children in order, and fails when out of memory.
     fn try_validate(&self, alloc: Global, table: &Extensions<'_>) -> Result<(), ExprValidationError>
         ensures valid { (answers : ModelName → List V → Called) → OnOk result (has_valid_calls (table_of table.now answers) (tree self.now) ≡ true) }
         ensures refused { (answers : ModelName → List V → Called) → IfErr result (RefusesExpression (table_of table.now answers) (tree self.now)) };
 
     /// The type that the expression shows by itself: that of a literal, an operator, a test, a set or a record, of a choice where
     /// both branches agree, of a call the result of its function, of an unknown its annotation. Variables, slots, attributes and
-    /// tags show none. Answers want of memory.
+    /// tags show none. Fails only when out of memory.
     fn try_type_of(&self, table: &Extensions<'_>) -> Result<Option<Type>, AllocError>
         ensures { (answers : ModelName → List V → Called) → IfOk result (λ t. option_map core_of t ≡ evident_type (table_of table.now answers) (tree self.now)) };
 }

@@ -88,8 +88,8 @@ impl ExtensionFunction {
         ExtensionFunction::new(name, style, func, Some(return_type), arg_types, false)
     }
 
-    /// The function of one argument of this type, with this result. What is stored has the facts of its signature. Answers want
-    /// of memory.
+    /// The function of one argument of this type, with this result. What is stored has the facts of its signature. Fails only when
+    /// out of memory.
     pub fn unary(
         alloc: Global,
         name: Name,
@@ -106,8 +106,8 @@ impl ExtensionFunction {
         Ok(ExtensionFunction::new(name, style, func, Some(return_type), arg_types, false))
     }
 
-    /// The function of two arguments of these types, with this result. What is stored has the facts of its signature. Answers
-    /// want of memory.
+    /// The function of two arguments of these types, with this result. What is stored has the facts of its signature. Fails only
+    /// when out of memory.
     pub fn binary(
         alloc: Global,
         name: Name,
@@ -125,8 +125,8 @@ impl ExtensionFunction {
         Ok(ExtensionFunction::new(name, style, func, Some(return_type), arg_types, false))
     }
 
-    /// The function of three arguments of these types, with this result. What is stored has the facts of its signature. Answers
-    /// want of memory.
+    /// The function of three arguments of these types, with this result. What is stored has the facts of its signature. Fails only
+    /// when out of memory.
     pub fn ternary(
         alloc: Global,
         name: Name,
@@ -162,7 +162,7 @@ impl ExtensionFunction {
     }
 
     /// The function of one argument of this type that leaves an unknown: it has no result type. What is stored has the facts of
-    /// its signature. Answers want of memory.
+    /// its signature. Fails only when out of memory.
     pub fn partial_eval_unknown(
         alloc: Global,
         name: Name,
@@ -292,7 +292,7 @@ impl ExtensionFunction {
     }
 
     /// Calls the function on these arguments. Refuses another number of them than it takes, then the first that isn't of its
-    /// type, then what the function itself refuses, and answers want of memory.
+    /// type, then what the function itself refuses, and fails when out of memory.
     pub fn call(
         &self,
         alloc: Global,

@@ -66,7 +66,7 @@ impl<'a> Extensions<'a> {
     }
 
     /// The table of these extensions. Refuses a name of a function that stands twice, then an extension type with two
-    /// constructors, and answers out of memory.
+    /// constructors, and fails when out of memory.
     pub fn specific_extensions(
         alloc: Global,
         extensions: &'a [Extension],
@@ -105,7 +105,7 @@ impl<'a> Extensions<'a> {
         }
     }
 
-    /// The names that `ext_types` gives, in its order, as a list. Answers out of memory.
+    /// The names that `ext_types` gives, in its order, as a list. Fails only when out of memory.
     pub fn ext_type_list(&self, alloc: Global) -> Result<Vec<Name>, AllocError>
         ensures { IfOk result (λ ns. map plain_name_of ns.items ≡ filter_map given_type (functions_of self.now)) }
     {
@@ -119,7 +119,7 @@ impl<'a> Extensions<'a> {
         self.ordered.iter()
     }
 
-    /// The function of this name. Refuses a name that no function has, and answers out of memory for the refusal.
+    /// The function of this name. Refuses a name that no function has, and fails when out of memory for the refusal.
     pub fn func(&self, name: &Name) -> Result<&'a ExtensionFunction, ExtensionFunctionLookupError>
         ensures found { (answers : ModelName → List V → Called) → IfOk result (λ f. signature_of (table_of self.now answers) (plain_name_of name.now) ≡ Some (function_signature f.now)) }
         ensures answers { IfOk result (λ f. AnswersInTable self.now (plain_name_of name.now) f.now) }

@@ -136,7 +136,7 @@ fn in_order<'a>(
     Ok(functions)
 }
 
-// Refuses an extension type that two of these functions construct, and answers out of memory.
+// Refuses an extension type that two of these functions construct, and fails when out of memory.
 pub fn refuse_two_constructors(
     alloc: Global,
     functions: &[&ExtensionFunction],

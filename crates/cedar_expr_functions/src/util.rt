@@ -12,7 +12,7 @@ use crate::err::CollectError;
 use std::alloc::Global;
 use std::collections::BTreeMap;
 
-/// The map of these pairs. Refuses a key that is met again, which it hands out, and answers want of memory.
+/// The map of these pairs. Refuses a key that is met again, which it hands out, and fails when out of memory.
 pub fn collect_no_duplicates<K: Ord + Drop, V: Drop>(
     alloc: Global,
     pairs: Vec<(K, V)>,

@@ -43,7 +43,7 @@ impl Drop for ConditionalName {
 }
 
 impl ConditionalName {
-    /// The conditional name that stands for this name alone. Answers want of memory.
+    /// The conditional name that stands for this name alone. Fails only when out of memory.
     pub fn unconditional(
         alloc: Global,
         name: InternalName,
@@ -64,7 +64,7 @@ impl ConditionalName {
         })
     }
 
-    // The conditional name that stands for this name, and then for the one that is written. Answers want of memory.
+    // The conditional name that stands for this name, and then for the one that is written. Fails only when out of memory.
     pub(crate) fn either(
         alloc: Global,
         first: InternalName,

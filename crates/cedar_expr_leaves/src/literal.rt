@@ -29,7 +29,7 @@ pub enum Literal {
 }
 
 impl Literal {
-    /// The literal of a copy of this text. Answers want of memory.
+    /// The literal of a copy of this text. Fails only when out of memory.
     pub fn from_str(alloc: Global, text: &str) -> Result<Literal, AllocError>
         ensures { IfOk result (λ l. literal_of l ≡ text_literal text.now) }
     {
@@ -37,7 +37,7 @@ impl Literal {
         Ok(Literal::String(text))
     }
 
-    /// The literal of this text. Answers want of memory.
+    /// The literal of this text. Fails only when out of memory.
     pub fn from_string(text: String) -> Result<Literal, AllocError>
         ensures { IfOk result (λ l. literal_of l ≡ text_literal (string_bytes text)) }
     {
@@ -45,7 +45,7 @@ impl Literal {
         Ok(Literal::String(text))
     }
 
-    /// The literal of this uid. Answers want of memory.
+    /// The literal of this uid. Fails only when out of memory.
     pub fn from_entity_uid(alloc: Global, uid: EntityUID) -> Result<Literal, AllocError>
         ensures { IfOk result (λ l. literal_of l ≡ entity (uid_of uid)) }
     {

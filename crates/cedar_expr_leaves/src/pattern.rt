@@ -50,7 +50,7 @@ impl Drop for Pattern {
 }
 
 impl Pattern {
-    /// The pattern of these elements. Answers want of memory.
+    /// The pattern of these elements. Fails only when out of memory.
     pub fn new(alloc: Global, elems: Vec<PatternElem>) -> Result<Pattern, AllocError>
         ensures { IfOk result (λ p. pattern_of p ≡ elements_of elems.items) }
     {

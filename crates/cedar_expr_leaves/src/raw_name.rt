@@ -19,7 +19,7 @@ use std::fmt::{Display, Formatter, Write};
 pub struct RawName(InternalName);
 
 impl RawName {
-    /// The raw name of one identifier, at a place. Answers want of memory.
+    /// The raw name of one identifier, at a place. Fails only when out of memory.
     pub fn new(alloc: Global, id: Id, loc: Option<Loc>) -> Result<RawName, AllocError>
         ensures base { IfOk result (λ n. (raw_name_of n).base ≡ id_text id) }
         ensures path { IfOk result (λ n. (raw_name_of n).path ≡ []) }
@@ -29,7 +29,7 @@ impl RawName {
         Ok(RawName(internal))
     }
 
-    /// The raw name of one identifier that is not reserved, at a place. Answers want of memory.
+    /// The raw name of one identifier that is not reserved, at a place. Fails only when out of memory.
     pub fn new_from_unreserved(
         alloc: Global,
         id: UnreservedId,
@@ -49,7 +49,7 @@ impl RawName {
         RawName(name)
     }
 
-    /// Reads a raw name, which has to be the whole text. Refuses any other text, and answers want of memory.
+    /// Reads a raw name, which has to be the whole text. Refuses any other text, and fails when out of memory.
     pub fn from_normalized_str(alloc: Global, text: &str) -> Result<RawName, NameError>
         ensures read { IfOk result (λ n. name_read text.now ≡ Some (raw_name_of n)) }
         ensures shown { IfOk result (λ n. name_text (raw_name_of n) ≡ text.now) }
@@ -60,7 +60,7 @@ impl RawName {
         Ok(RawName(internal))
     }
 
-    /// Reads a raw name of one identifier, which has to be the whole text. Refuses any other text, and answers want of memory.
+    /// Reads a raw name of one identifier, which has to be the whole text. Refuses any other text, and fails when out of memory.
     pub fn parse_unqualified_name(alloc: Global, text: &str) -> Result<RawName, NameError>
         ensures read { IfOk result (λ n. raw_name_of n ≡ unqualified text.now) }
         ensures identifies { IfOk result (λ n. is_identifier text.now ≡ true) }
@@ -85,7 +85,7 @@ impl RawName {
         self.0.loc()
     }
 
-    /// The name in a namespace, if there is one; a name that has a namespace stays as it is. Answers want of memory.
+    /// The name in a namespace, if there is one; a name that has a namespace stays as it is. Fails only when out of memory.
     pub fn qualify_with(
         self,
         alloc: Global,
@@ -97,8 +97,8 @@ impl RawName {
         self.0.qualify_with(alloc, namespace)
     }
 
-    /// The name in a namespace that is not reserved, if there is one; a name that has a namespace stays as it is. Answers
-    /// want of memory.
+    /// The name in a namespace that is not reserved, if there is one; a name that has a namespace stays as it is. Fails only
+    /// when out of memory.
     pub fn qualify_with_name(
         self,
         alloc: Global,
@@ -111,7 +111,7 @@ impl RawName {
     }
 
     /// What the name may stand for where it is written in this namespace, if there is one: itself in the namespace, and then
-    /// itself; a name that has a namespace, itself alone. Answers want of memory.
+    /// itself; a name that has a namespace, itself alone. Fails only when out of memory.
     pub fn conditionally_qualify_with(
         self,
         alloc: Global,

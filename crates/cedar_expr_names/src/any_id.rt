@@ -29,7 +29,7 @@ impl AnyId {
     ghost use Rattle.cedar_expr_names.specs.Views.{any_id_text};
     ghost use Rattle.cedar_expr_names.specs.Refusals.{RefusesWord};
 
-    /// Reads an identifier or such a word, which has to be the whole text. Refuses any other text, and answers out of memory.
+    /// Reads an identifier or such a word, which has to be the whole text. Refuses any other text, and fails when out of memory.
     pub fn from_normalized_str(alloc: Global, text: &str) -> Result<AnyId, NameError>
         ensures read { IfOk result (λ i. any_id_text i ≡ text.now) }
         ensures word { IfOk result (λ i. is_word text.now ≡ true) }

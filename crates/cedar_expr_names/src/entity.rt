@@ -36,7 +36,7 @@ impl EntityType {
         EntityType(name)
     }
 
-    /// Reads an entity type, whose name has to be the whole text. Refuses any other text and a reserved name, and answers out of memory.
+    /// Reads an entity type, whose name has to be the whole text. Refuses any other text and a reserved name, and fails when out of memory.
     pub fn from_normalized_str(alloc: Global, text: &str) -> Result<EntityType, NameError>
         ensures read { IfOk result (λ t. name_read text.now ≡ Some (type_name_of t)) }
         ensures shown { IfOk result (λ t. name_text (type_name_of t) ≡ text.now) }
@@ -107,7 +107,7 @@ impl Eid {
         Eid(text)
     }
 
-    /// The id of a copy of this text. Answers out of memory.
+    /// The id of a copy of this text. Fails only when out of memory.
     pub fn from_str(alloc: Global, text: &str) -> Result<Eid, AllocError>
         ensures { IfOk result (λ e. eid_text e ≡ text.now) }
     {

@@ -30,7 +30,7 @@ impl Id {
     ghost use Rattle.cedar_expr_names.specs.Parts.{id_text};
     ghost use Rattle.cedar_expr_names.specs.Refusals.{RefusesIdentifier};
 
-    /// Reads an identifier, which has to be the whole text. Refuses any other text, and answers out of memory.
+    /// Reads an identifier, which has to be the whole text. Refuses any other text, and fails when out of memory.
     pub fn from_normalized_str(alloc: Global, text: &str) -> Result<Id, NameError>
         ensures read { IfOk result (λ i. id_text i ≡ text.now) }
         ensures identifies { IfOk result (λ i. is_identifier text.now ≡ true) }
@@ -43,7 +43,7 @@ impl Id {
         Ok(Id { text })
     }
 
-    // The reserved identifier `__cedar`. Answers out of memory.
+    // The reserved identifier `__cedar`. Fails only when out of memory.
     pub(crate) fn reserved_id(alloc: Global) -> Result<Id, AllocError>
         ensures { IfOk result (λ i. id_text i ≡ reserved) }
     {

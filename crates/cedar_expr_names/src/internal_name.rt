@@ -64,7 +64,7 @@ impl InternalName {
     ghost use Rattle.cedar_expr_model.specs.UidOrder.{name_cmp};
     ghost use Rattle.cedar_expr_names.specs.Refusals.{RefusesIdentifier, RefusesText};
 
-    /// The name of a base under a path, at a place. Answers out of memory.
+    /// The name of a base under a path, at a place. Fails only when out of memory.
     pub fn new(
         alloc: Global,
         basename: Id,
@@ -87,7 +87,7 @@ impl InternalName {
         Ok(InternalName { content })
     }
 
-    /// Reads a name, which has to be the whole text. Refuses any other text, and answers out of memory.
+    /// Reads a name, which has to be the whole text. Refuses any other text, and fails when out of memory.
     pub fn from_normalized_str(alloc: Global, text: &str) -> Result<InternalName, NameError>
         ensures read { IfOk result (λ n. name_read text.now ≡ Some (name_of n)) }
         ensures shown { IfOk result (λ n. name_text (name_of n) ≡ text.now) }
@@ -104,7 +104,7 @@ impl InternalName {
         InternalName::new(alloc, base, path, None).map_err(|_| NameError::OutOfMemory)
     }
 
-    /// Reads a name of one identifier, which has to be the whole text. Refuses any other text, and answers out of memory.
+    /// Reads a name of one identifier, which has to be the whole text. Refuses any other text, and fails when out of memory.
     pub fn parse_unqualified_name(alloc: Global, text: &str) -> Result<InternalName, NameError>
         ensures read { IfOk result (λ n. name_of n ≡ unqualified text.now) }
         ensures identifies { IfOk result (λ n. is_identifier text.now ≡ true) }
@@ -115,7 +115,7 @@ impl InternalName {
         InternalName::unqualified_name(alloc, id).map_err(|_| NameError::OutOfMemory)
     }
 
-    /// The reserved name `__cedar`. Answers out of memory.
+    /// The reserved name `__cedar`. Fails only when out of memory.
     pub fn cedar(alloc: Global) -> Result<InternalName, AllocError>
         ensures value { IfOk result (λ n. name_of n ≡ cedar_name) }
         ensures place { IfOk result (λ n. name_loc n ≡ None) }
@@ -124,7 +124,7 @@ impl InternalName {
         InternalName::unqualified_name(alloc, id)
     }
 
-    /// The name of this base in a namespace, at a place. Answers out of memory.
+    /// The name of this base in a namespace, at a place. Fails only when out of memory.
     pub fn type_in_namespace(
         alloc: Global,
         basename: Id,
@@ -171,7 +171,7 @@ impl InternalName {
         self.content.path.iter()
     }
 
-    /// The text of the name's namespace: empty where it has none. Answers out of memory.
+    /// The text of the name's namespace: empty where it has none. Fails only when out of memory.
     pub fn namespace(&self, alloc: Global) -> Result<String, AllocError>
         ensures { IfOk result (λ t. string_bytes t ≡ namespace_text (name_of self.now)) }
     {
@@ -181,7 +181,7 @@ impl InternalName {
         }
     }
 
-    /// The name in a namespace, if there is one; a name that has a namespace stays as it is. Answers out of memory.
+    /// The name in a namespace, if there is one; a name that has a namespace stays as it is. Fails only when out of memory.
     pub fn qualify_with(
         &self,
         alloc: Global,
@@ -247,7 +247,7 @@ impl InternalName {
         self.content.loc
     }
 
-    /// The name of one identifier, without a path or a place. Answers out of memory.
+    /// The name of one identifier, without a path or a place. Fails only when out of memory.
     pub fn unqualified_name(alloc: Global, id: Id) -> Result<InternalName, AllocError>
         ensures base { IfOk result (λ n. (name_of n).base ≡ id_text id) }
         ensures path { IfOk result (λ n. (name_of n).path ≡ []) }

@@ -32,7 +32,7 @@ impl Name {
     ghost use Rattle.cedar_expr_names.specs.Namespaces.{space_of, plain_space_of};
     ghost use Rattle.cedar_expr_names.specs.Refusals.{RefusesPlainText, RefusesUnreservedIdentifier, RefusesReserved};
 
-    /// Reads a name, which has to be the whole text. Refuses any other text and a reserved name, and answers out of memory.
+    /// Reads a name, which has to be the whole text. Refuses any other text and a reserved name, and fails when out of memory.
     pub fn from_normalized_str(alloc: Global, text: &str) -> Result<Name, NameError>
         ensures read { IfOk result (λ n. name_read text.now ≡ Some (plain_name_of n)) }
         ensures shown { IfOk result (λ n. name_text (plain_name_of n) ≡ text.now) }
@@ -58,7 +58,7 @@ impl Name {
         Ok(Name { internal })
     }
 
-    /// A copy of the name, unless it is reserved: then a copy of it is in the refusal. Answers out of memory.
+    /// A copy of the name, unless it is reserved: then a copy of it is in the refusal. Fails only when out of memory.
     pub fn try_from_borrowed(internal: &InternalName) -> Result<Name, NameError>
         ensures made { IfOk result (λ n. plain_name_of n ≡ name_of internal.now) }
         ensures place { IfOk result (λ n. plain_name_loc n ≡ name_loc internal.now) }
@@ -69,7 +69,7 @@ impl Name {
         Name::try_from_internal(internal).map_err(NameError::Reserved)
     }
 
-    /// The name of one identifier, without a path or a place. Answers out of memory.
+    /// The name of one identifier, without a path or a place. Fails only when out of memory.
     pub fn unqualified_name(alloc: Global, id: UnreservedId) -> Result<Name, AllocError>
         ensures value { IfOk result (λ n. plain_name_of n ≡ unqualified (unreserved_id_text id)) }
         ensures place { IfOk result (λ n. plain_name_loc n ≡ None) }
@@ -79,7 +79,7 @@ impl Name {
     }
 
     /// Reads a name of one identifier, which has to be the whole text. Refuses any other text and the reserved one, and
-    /// answers out of memory.
+    /// fails when out of memory.
     pub fn parse_unqualified_name(alloc: Global, text: &str) -> Result<Name, NameError>
         ensures read { IfOk result (λ n. plain_name_of n ≡ unqualified text.now) }
         ensures identifies { IfOk result (λ n. is_identifier text.now ≡ true) }
@@ -91,7 +91,7 @@ impl Name {
         Name::unqualified_name(alloc, id).map_err(|_| NameError::OutOfMemory)
     }
 
-    /// A copy of the name's last identifier. Answers out of memory.
+    /// A copy of the name's last identifier. Fails only when out of memory.
     pub fn basename(&self) -> Result<UnreservedId, AllocError>
         ensures { IfOk result (λ u. unreserved_id_text u ≡ (plain_name_of self.now).base) }
     {
@@ -121,7 +121,7 @@ impl Name {
         self.internal.loc()
     }
 
-    /// The name in a namespace, if there is one; a name that has a namespace stays as it is. Answers out of memory.
+    /// The name in a namespace, if there is one; a name that has a namespace stays as it is. Fails only when out of memory.
     pub fn qualify_with(
         &self,
         alloc: Global,

@@ -31,7 +31,7 @@ impl UnreservedId {
     ghost use Rattle.cedar_expr_names.specs.Refusals.{RefusesUnreservedIdentifier};
 
     /// Reads an identifier that is not reserved, which has to be the whole text. Refuses any other text and the reserved
-    /// one, and answers out of memory.
+    /// one, and fails when out of memory.
     pub fn from_normalized_str(alloc: Global, text: &str) -> Result<UnreservedId, NameError>
         ensures read { IfOk result (λ u. unreserved_id_text u ≡ text.now) }
         ensures unreserved { IfOk result (λ u. bytes_eq reserved text.now ≡ false) }
@@ -41,7 +41,7 @@ impl UnreservedId {
         UnreservedId::try_from_id(alloc, id)
     }
 
-    /// The identifier, unless it is the reserved one. Answers out of memory where there is none for the refusal.
+    /// The identifier, unless it is the reserved one. Fails only when out of memory where there is none for the refusal.
     pub fn try_from_id(alloc: Global, id: Id) -> Result<UnreservedId, NameError>
         ensures made { IfOk result (λ u. unreserved_id_text u ≡ id_text id) }
         ensures unreserved { IfOk result (λ u. bytes_eq reserved (id_text id) ≡ false) }

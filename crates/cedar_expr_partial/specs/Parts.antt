@@ -68,7 +68,7 @@ value_shown e = value_of_tree (tree_of e)
 abbrev pub field_shown : {T : Type 0} → RcStr Global × Expr T → Option (Text × V)
 field_shown p = option_map (λ v. (rc_str_bytes p.0, v)) (value_shown p.1)
 
--- The fault is there: there is no value. Want of memory says nothing.
+-- The fault is there: there is no value. Out of memory says nothing.
 abbrev pub IsNoValue : {A : Type 0} → Option A → Fault → Type 0
 IsNoValue o OutOfMemory = Unit {0}
 IsNoValue o (NotValue loc) = o ≡ None

@@ -29,12 +29,12 @@ pub trait FromValue: Sized {
     ghost place: { Self → Option Loc };
 
     /// The expression that the value is written as: its literal, the set or record of its members or fields so written, or the
-    /// call that makes it. It stands at the value's place. Answers want of memory.
+    /// call that makes it. It stands at the value's place. Fails only when out of memory.
     fn from_value<X: ExtensionCall>(alloc: Global, value: &Value<X>) -> Result<Self, AllocError>
         ensures tree { IfOk result (λ e. tree e ≡ written (made X.seen value.now)) }
         ensures place { IfOk result (λ e. place e ≡ value_place value.now) };
 
-    /// The expression that a kind of values is written as, without a place. Answers want of memory.
+    /// The expression that a kind of values is written as, without a place. Fails only when out of memory.
     fn from_value_kind<X: ExtensionCall>(
         alloc: Global,
         kind: &ValueKind<X>,
@@ -42,7 +42,7 @@ pub trait FromValue: Sized {
         ensures tree { IfOk result (λ e. tree e ≡ written (made_kind X.seen kind.now)) }
         ensures place { IfOk result (λ e. place e ≡ None) };
 
-    /// The expression that it is, or that the value is written as, at its place. Answers want of memory.
+    /// The expression that it is, or that the value is written as, at its place. Fails only when out of memory.
     fn from_partial_value<X: ExtensionCall>(
         alloc: Global,
         value: PartialValue<X>,
@@ -84,7 +84,7 @@ pub trait TryFromExpr: Sized {
     ghost value: { Self → V };
 
     /// The value that an expression of literals, sets and records is. Of equal members of a set the first stands. Refuses an
-    /// expression with a part of another kind, and answers want of memory.
+    /// expression with a part of another kind, and fails when out of memory.
     fn try_from_expr<T>(alloc: Global, expr: &Expr<T>) -> Result<Self, NotValue>
         ensures value { IfOk result (λ v. value_of_tree (tree_of expr.now) ≡ Some (value v)) }
         ensures refused { IfErr result (IsNoValue (value_of_tree (tree_of expr.now))) };

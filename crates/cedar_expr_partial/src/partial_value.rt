@@ -133,7 +133,7 @@ impl<X: ExtensionValue> TryFrom<PartialValue<X>> for Value<X> {
     }
 }
 
-/// The items in their order: values where each is one, else expressions. Answers want of memory.
+/// The items in their order: values where each is one, else expressions. Fails only when out of memory.
 pub fn split<X: ExtensionCall>(
     alloc: Global,
     items: Vec<PartialValue<X>>,

@@ -13,7 +13,7 @@ module _ {M N R : Type 0} (step : M → Result N R) where
   pub handed_on : {E : Type 0} (says : E → R) (o : Result M R) (f : BuildFault E) → Refuses says o f → Refuses says (and_then step o) f
   handed_on says o f h r k = ap (and_then step) (h r k)
 
--- want of memory tells nothing
+-- out of memory tells nothing
 pub tells_nothing : {E M R : Type 0} (says : E → R) (o : Result M R) (f : BuildFault E) → f ≡ OutOfMemory → Refuses says o f
 tells_nothing says o OutOfMemory e r k = absurd (cc)
 tells_nothing says o (Refused x) e r k = absurd (cc)

@@ -36,7 +36,7 @@ placed_by env n a = option_map_or written (env n) (unknown n a)
 abbrev pub substituting : Bindings → Builder Tree
 substituting env = record tree_builder { of_unknown = λ n a. option_map_or (λ m. built tree_builder (written m)) (env n) (unknown n a) }
 
--- The fault is the leftmost mismatch. Want of memory says nothing.
+-- The fault is the leftmost mismatch. Out of memory says nothing.
 abbrev pub IsMismatch : Option Mismatch → SubstitutionError → Type 0
 IsMismatch m OutOfMemory = Unit {0}
 IsMismatch m (TypeError name expected actual) = m ≡ Some (record { name = rc_str_bytes name; annotation = core_of expected; actual = core_of actual })

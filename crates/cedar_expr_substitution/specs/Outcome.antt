@@ -22,7 +22,7 @@ placing b refuses placed = with_placed (refusing b refuses) placed
 abbrev pub built_placed : {M R : Type 0} → Builder M → (Name → List M → Option R) → (Text → Option CoreType → Tree) → Tree → Result M R
 built_placed b refuses placed t = built (placing b refuses placed) t
 
--- The refusal that a fault tells. Want of memory tells none.
+-- The refusal that a fault tells. Out of memory tells none.
 abbrev pub told : {E R : Type 0} → (E → R) → BuildFault E → Option R
 told says OutOfMemory = None
 told says (Refused e) = Some (says e)

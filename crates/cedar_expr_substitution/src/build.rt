@@ -22,7 +22,7 @@ use std::rc::RcStr;
 
 /// What the builder makes of the expression, each part at its place, with default data, and of each unknown what it makes of the
 /// expression in its place. Refuses what the builder refuses first, children in order and the fields of a record by their names,
-/// and answers want of memory.
+/// and fails when out of memory.
 #[cycle(build)]
 pub fn build_with<B: ExprBuilder, T, U: BuildUnknown>(
     alloc: Global,

@@ -20,7 +20,7 @@ pub trait Rebuild {
     ghost tree: { Self → Tree };
 
     /// What the builder makes of the expression, each part at its place, with default data. Refuses what the builder refuses
-    /// first, children in order and the fields of a record by their names, and answers want of memory.
+    /// first, children in order and the fields of a record by their names, and fails when out of memory.
     fn try_into_expr<B: ExprBuilder>(
         &self,
         alloc: Global,

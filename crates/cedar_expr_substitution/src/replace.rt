@@ -19,11 +19,11 @@ pub trait Replace {
     /// The tree in the place of the slot.
     ghost slotted: { Self → BareSlot → Tree };
 
-    /// The expression in the place of the unknown. Answers want of memory.
+    /// The expression in the place of the unknown. Fails only when out of memory.
     fn unknown(&self, alloc: Global, u: &Unknown) -> Result<Expr, AllocError>
         ensures { IfOk result (λ r. tree_of r ≡ placed self.now (unknown_of u.now).name (unknown_of u.now).annotation) };
 
-    /// The expression in the place of the slot. Answers want of memory.
+    /// The expression in the place of the slot. Fails only when out of memory.
     fn slot(&self, s: SlotId) -> Result<Expr, AllocError>
         ensures { IfOk result (λ r. tree_of r ≡ slotted self.now (slot_of s)) };
 }

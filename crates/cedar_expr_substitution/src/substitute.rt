@@ -28,7 +28,7 @@ pub trait Substitute {
     ghost tree: { Self → Tree };
 
     /// The expression with the values of these bindings in the place of the unknowns that they bind, made anew through the
-    /// constructors. Annotations are not asked. Answers want of memory.
+    /// constructors. Annotations are not asked. Fails only when out of memory.
     fn substitute<X: ExtensionCall>(
         &self,
         alloc: Global,
@@ -49,7 +49,7 @@ pub trait Substitute {
         ensures refused { IfErr result (λ f. IsMismatch (mismatch (bindings_of X.seen bindings.now) (tree self.now)) f) };
 
     /// What the builder makes of the expression under these bindings. That means what it makes of the expression itself, but of
-    /// each bound unknown what it makes of its value. Refuses what the builder then refuses first, and answers want of memory.
+    /// each bound unknown what it makes of its value. Refuses what the builder then refuses first, and fails when out of memory.
     fn substitute_into_expr<B: ExprBuilder, X: ExtensionCall>(
         &self,
         alloc: Global,

@@ -18,8 +18,8 @@ pub trait BuildUnknown {
     /// The expression in the place of the unknown of this name and annotation.
     ghost placed: { Self → Text → Option CoreType → Tree };
 
-    /// What the builder makes of the expression in the place of the unknown. Refuses what the builder refuses first, and answers
-    /// want of memory.
+    /// What the builder makes of the expression in the place of the unknown. Refuses what the builder refuses first, and fails
+    /// when out of memory.
     fn build_unknown<B: ExprBuilder>(
         &self,
         alloc: Global,

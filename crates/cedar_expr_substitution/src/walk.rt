@@ -17,7 +17,7 @@ use std::collections::BTreeMap;
 use std::rc::{Rc, RcStr};
 
 /// The expression with what is given in the place of unknowns and of slots, made anew through the constructors: what has parts is
-/// without a place. Answers want of memory.
+/// without a place. Fails only when out of memory.
 #[cycle(walk)]
 pub fn replaced<R: Replace>(alloc: Global, e: &Expr, by: &R) -> Result<Expr, AllocError>
     ensures { IfOk result (λ r. tree_of r ≡ built (replacing (R.placed by.now) (R.slotted by.now)) (tree_of e.now)) }

@@ -18,12 +18,12 @@ repeated_key e = rc_str_bytes e.key
 abbrev pub repeated_context : DuplicateKeyError → Text
 repeated_context e = e.context.now
 
--- The fault is there in a record literal of these pairs. Want of memory says nothing.
+-- The fault is there in a record literal of these pairs. Out of memory says nothing.
 abbrev pub RefusesRecord : {A : Type 0} → List (Text × A) → ExpressionConstructionError → Type 0
 RefusesRecord ps OutOfMemory = Unit {0}
 RefusesRecord ps (DuplicateKey e) = (repeated_name ps ≡ Some (repeated_key e)) × (repeated_context e ≡ codes "in record literal")
 
--- The fault is there where a field of this name is put among fields of these names. Want of memory says nothing.
+-- The fault is there where a field of this name is put among fields of these names. Out of memory says nothing.
 abbrev pub RefusesField : List Text → Text → ExpressionConstructionError → Type 0
 RefusesField names a OutOfMemory = Unit {0}
 RefusesField names a (DuplicateKey e) = (list_any (bytes_eq a) names ≡ true) × (repeated_key e ≡ a) × (repeated_context e ≡ codes "in record literal")

@@ -54,7 +54,7 @@ impl Expr {
         Expr::of_kind(ExprKind::Slot(s))
     }
 
-    /// The choice between two expressions by a test. Answers want of memory.
+    /// The choice between two expressions by a test. Fails only when out of memory.
     pub fn ite(
         alloc: Global,
         test_expr: Expr,
@@ -82,7 +82,7 @@ impl Expr {
         })
     }
 
-    /// The negation of a truth value. Answers want of memory.
+    /// The negation of a truth value. Fails only when out of memory.
     pub fn not(alloc: Global, e: Expr) -> Result<Expr, AllocError>
         ensures tree { IfOk result (λ r. tree_of r ≡ unary negation (tree_of e)) }
         ensures place { IfOk result (λ r. place_of r ≡ None) }
@@ -90,7 +90,7 @@ impl Expr {
         Expr::unary_app(alloc, UnaryOp::Not, e)
     }
 
-    /// Whether two values are equal. Answers want of memory.
+    /// Whether two values are equal. Fails only when out of memory.
     pub fn is_eq(alloc: Global, e1: Expr, e2: Expr) -> Result<Expr, AllocError>
         ensures tree { IfOk result (λ r. tree_of r ≡ binary equal (tree_of e1) (tree_of e2)) }
         ensures place { IfOk result (λ r. place_of r ≡ None) }
@@ -98,7 +98,7 @@ impl Expr {
         Expr::binary_app(alloc, BinaryOp::Eq, e1, e2)
     }
 
-    /// Whether two values are not equal: the negation of `is_eq`. Answers want of memory.
+    /// Whether two values are not equal: the negation of `is_eq`. Fails only when out of memory.
     pub fn noteq(alloc: Global, e1: Expr, e2: Expr) -> Result<Expr, AllocError>
         ensures tree { IfOk result (λ r. tree_of r ≡ unary negation (binary equal (tree_of e1) (tree_of e2))) }
         ensures place { IfOk result (λ r. place_of r ≡ None) }
@@ -107,7 +107,7 @@ impl Expr {
         Expr::not(alloc, e)
     }
 
-    /// The conjunction. Of two literal truth values it is their literal. Answers want of memory.
+    /// The conjunction. Of two literal truth values it is their literal. Fails only when out of memory.
     pub fn and(alloc: Global, e1: Expr, e2: Expr) -> Result<Expr, AllocError>
         ensures tree { IfOk result (λ r. tree_of r ≡ conjunction (tree_of e1) (tree_of e2)) }
         ensures place { IfOk result (λ r. place_of r ≡ None) }
@@ -121,7 +121,7 @@ impl Expr {
         Ok(Expr::of_kind(ExprKind::And { left, right }))
     }
 
-    /// The disjunction. Of two literal truth values it is their literal. Answers want of memory.
+    /// The disjunction. Of two literal truth values it is their literal. Fails only when out of memory.
     pub fn or(alloc: Global, e1: Expr, e2: Expr) -> Result<Expr, AllocError>
         ensures tree { IfOk result (λ r. tree_of r ≡ disjunction (tree_of e1) (tree_of e2)) }
         ensures place { IfOk result (λ r. place_of r ≡ None) }
@@ -135,7 +135,7 @@ impl Expr {
         Ok(Expr::of_kind(ExprKind::Or { left, right }))
     }
 
-    /// Whether a value is below another. Answers want of memory.
+    /// Whether a value is below another. Fails only when out of memory.
     pub fn less(alloc: Global, e1: Expr, e2: Expr) -> Result<Expr, AllocError>
         ensures tree { IfOk result (λ r. tree_of r ≡ binary less (tree_of e1) (tree_of e2)) }
         ensures place { IfOk result (λ r. place_of r ≡ None) }
@@ -143,7 +143,7 @@ impl Expr {
         Expr::binary_app(alloc, BinaryOp::Less, e1, e2)
     }
 
-    /// Whether a value is below another or equal to it. Answers want of memory.
+    /// Whether a value is below another or equal to it. Fails only when out of memory.
     pub fn lesseq(alloc: Global, e1: Expr, e2: Expr) -> Result<Expr, AllocError>
         ensures tree { IfOk result (λ r. tree_of r ≡ binary less_or_equal (tree_of e1) (tree_of e2)) }
         ensures place { IfOk result (λ r. place_of r ≡ None) }
@@ -151,7 +151,7 @@ impl Expr {
         Expr::binary_app(alloc, BinaryOp::LessEq, e1, e2)
     }
 
-    /// Whether a value is above another: the negation of `lesseq`. Answers want of memory.
+    /// Whether a value is above another: the negation of `lesseq`. Fails only when out of memory.
     pub fn greater(alloc: Global, e1: Expr, e2: Expr) -> Result<Expr, AllocError>
         ensures tree { IfOk result (λ r. tree_of r ≡ unary negation (binary less_or_equal (tree_of e1) (tree_of e2))) }
         ensures place { IfOk result (λ r. place_of r ≡ None) }
@@ -160,7 +160,7 @@ impl Expr {
         Expr::not(alloc, e)
     }
 
-    /// Whether a value is above another or equal to it: the negation of `less`. Answers want of memory.
+    /// Whether a value is above another or equal to it: the negation of `less`. Fails only when out of memory.
     pub fn greatereq(alloc: Global, e1: Expr, e2: Expr) -> Result<Expr, AllocError>
         ensures tree { IfOk result (λ r. tree_of r ≡ unary negation (binary less (tree_of e1) (tree_of e2))) }
         ensures place { IfOk result (λ r. place_of r ≡ None) }
@@ -169,7 +169,7 @@ impl Expr {
         Expr::not(alloc, e)
     }
 
-    /// The sum of two whole numbers. Answers want of memory.
+    /// The sum of two whole numbers. Fails only when out of memory.
     pub fn add(alloc: Global, e1: Expr, e2: Expr) -> Result<Expr, AllocError>
         ensures tree { IfOk result (λ r. tree_of r ≡ binary plus (tree_of e1) (tree_of e2)) }
         ensures place { IfOk result (λ r. place_of r ≡ None) }
@@ -177,7 +177,7 @@ impl Expr {
         Expr::binary_app(alloc, BinaryOp::Add, e1, e2)
     }
 
-    /// The difference of two whole numbers. Answers want of memory.
+    /// The difference of two whole numbers. Fails only when out of memory.
     pub fn sub(alloc: Global, e1: Expr, e2: Expr) -> Result<Expr, AllocError>
         ensures tree { IfOk result (λ r. tree_of r ≡ binary difference (tree_of e1) (tree_of e2)) }
         ensures place { IfOk result (λ r. place_of r ≡ None) }
@@ -185,7 +185,7 @@ impl Expr {
         Expr::binary_app(alloc, BinaryOp::Sub, e1, e2)
     }
 
-    /// The product of two whole numbers. Answers want of memory.
+    /// The product of two whole numbers. Fails only when out of memory.
     pub fn mul(alloc: Global, e1: Expr, e2: Expr) -> Result<Expr, AllocError>
         ensures tree { IfOk result (λ r. tree_of r ≡ binary times (tree_of e1) (tree_of e2)) }
         ensures place { IfOk result (λ r. place_of r ≡ None) }
@@ -193,7 +193,7 @@ impl Expr {
         Expr::binary_app(alloc, BinaryOp::Mul, e1, e2)
     }
 
-    /// What the division of two whole numbers leaves, with the sign of the first. Answers out of memory.
+    /// What the division of two whole numbers leaves, with the sign of the first. Fails only when out of memory.
     pub fn rem(alloc: Global, e1: Expr, e2: Expr) -> Result<Expr, AllocError>
         ensures tree { IfOk result (λ r. tree_of r ≡ binary remainder (tree_of e1) (tree_of e2)) }
         ensures place { IfOk result (λ r. place_of r ≡ None) }
@@ -201,7 +201,7 @@ impl Expr {
         Expr::binary_app(alloc, BinaryOp::Rem, e1, e2)
     }
 
-    /// The negation of a whole number. Answers want of memory.
+    /// The negation of a whole number. Fails only when out of memory.
     pub fn neg(alloc: Global, e: Expr) -> Result<Expr, AllocError>
         ensures tree { IfOk result (λ r. tree_of r ≡ unary minus (tree_of e)) }
         ensures place { IfOk result (λ r. place_of r ≡ None) }
@@ -209,7 +209,7 @@ impl Expr {
         Expr::unary_app(alloc, UnaryOp::Neg, e)
     }
 
-    /// Whether an entity is another, or one of a set, or below it. Answers want of memory.
+    /// Whether an entity is another, or one of a set, or below it. Fails only when out of memory.
     pub fn is_in(alloc: Global, e1: Expr, e2: Expr) -> Result<Expr, AllocError>
         ensures tree { IfOk result (λ r. tree_of r ≡ binary is_in (tree_of e1) (tree_of e2)) }
         ensures place { IfOk result (λ r. place_of r ≡ None) }
@@ -217,7 +217,7 @@ impl Expr {
         Expr::binary_app(alloc, BinaryOp::In, e1, e2)
     }
 
-    /// Whether a set has this member. Answers want of memory.
+    /// Whether a set has this member. Fails only when out of memory.
     pub fn contains(alloc: Global, e1: Expr, e2: Expr) -> Result<Expr, AllocError>
         ensures tree { IfOk result (λ r. tree_of r ≡ binary contains (tree_of e1) (tree_of e2)) }
         ensures place { IfOk result (λ r. place_of r ≡ None) }
@@ -225,7 +225,7 @@ impl Expr {
         Expr::binary_app(alloc, BinaryOp::Contains, e1, e2)
     }
 
-    /// Whether a set has each member of another. Answers want of memory.
+    /// Whether a set has each member of another. Fails only when out of memory.
     pub fn contains_all(alloc: Global, e1: Expr, e2: Expr) -> Result<Expr, AllocError>
         ensures tree { IfOk result (λ r. tree_of r ≡ binary contains_all (tree_of e1) (tree_of e2)) }
         ensures place { IfOk result (λ r. place_of r ≡ None) }
@@ -233,7 +233,7 @@ impl Expr {
         Expr::binary_app(alloc, BinaryOp::ContainsAll, e1, e2)
     }
 
-    /// Whether two sets have a member in common. Answers want of memory.
+    /// Whether two sets have a member in common. Fails only when out of memory.
     pub fn contains_any(alloc: Global, e1: Expr, e2: Expr) -> Result<Expr, AllocError>
         ensures tree { IfOk result (λ r. tree_of r ≡ binary contains_any (tree_of e1) (tree_of e2)) }
         ensures place { IfOk result (λ r. place_of r ≡ None) }
@@ -241,7 +241,7 @@ impl Expr {
         Expr::binary_app(alloc, BinaryOp::ContainsAny, e1, e2)
     }
 
-    /// Whether a set has no member. Answers want of memory.
+    /// Whether a set has no member. Fails only when out of memory.
     pub fn is_empty(alloc: Global, e: Expr) -> Result<Expr, AllocError>
         ensures tree { IfOk result (λ r. tree_of r ≡ unary is_empty (tree_of e)) }
         ensures place { IfOk result (λ r. place_of r ≡ None) }
@@ -249,7 +249,7 @@ impl Expr {
         Expr::unary_app(alloc, UnaryOp::IsEmpty, e)
     }
 
-    /// The value of an entity's tag. Answers want of memory.
+    /// The value of an entity's tag. Fails only when out of memory.
     pub fn get_tag(alloc: Global, expr: Expr, tag: Expr) -> Result<Expr, AllocError>
         ensures tree { IfOk result (λ r. tree_of r ≡ binary get_tag (tree_of expr) (tree_of tag)) }
         ensures place { IfOk result (λ r. place_of r ≡ None) }
@@ -257,7 +257,7 @@ impl Expr {
         Expr::binary_app(alloc, BinaryOp::GetTag, expr, tag)
     }
 
-    /// Whether an entity has a tag. Answers want of memory.
+    /// Whether an entity has a tag. Fails only when out of memory.
     pub fn has_tag(alloc: Global, expr: Expr, tag: Expr) -> Result<Expr, AllocError>
         ensures tree { IfOk result (λ r. tree_of r ≡ binary has_tag (tree_of expr) (tree_of tag)) }
         ensures place { IfOk result (λ r. place_of r ≡ None) }
@@ -265,7 +265,7 @@ impl Expr {
         Expr::binary_app(alloc, BinaryOp::HasTag, expr, tag)
     }
 
-    /// A set, by its members. Answers want of memory.
+    /// A set, by its members. Fails only when out of memory.
     #[tactic(auto, using(crate::proofs::Trees::set_tree))]
     pub fn set(alloc: Global, exprs: Vec<Expr>) -> Result<Expr, AllocError>
         ensures tree { IfOk result (λ r. tree_of r ≡ set_literal (trees (map tree_of exprs.items))) }
@@ -284,7 +284,7 @@ impl Expr {
         Expr::of_kind(ExprKind::Record(map))
     }
 
-    /// A call of a function. Answers want of memory.
+    /// A call of a function. Fails only when out of memory.
     #[tactic(auto, using(crate::proofs::Trees::call_tree))]
     pub fn call_extension_fn(
         alloc: Global,
@@ -298,7 +298,7 @@ impl Expr {
         Ok(Expr::of_kind(ExprKind::ExtensionFunctionApp { fn_name, args }))
     }
 
-    /// An operator of one operand. Answers want of memory.
+    /// An operator of one operand. Fails only when out of memory.
     pub fn unary_app(alloc: Global, op: UnaryOp, arg: Expr) -> Result<Expr, AllocError>
         ensures tree { IfOk result (λ r. tree_of r ≡ unary (unary_op_of op) (tree_of arg)) }
         ensures place { IfOk result (λ r. place_of r ≡ None) }
@@ -307,7 +307,7 @@ impl Expr {
         Ok(Expr::of_kind(ExprKind::UnaryApp { op, arg }))
     }
 
-    /// An operator of two operands. Answers want of memory.
+    /// An operator of two operands. Fails only when out of memory.
     pub fn binary_app(
         alloc: Global,
         op: BinaryOp,
@@ -321,7 +321,7 @@ impl Expr {
         Ok(Expr::of_kind(ExprKind::BinaryApp { op, arg1, arg2 }))
     }
 
-    /// The value of an attribute. Answers want of memory.
+    /// The value of an attribute. Fails only when out of memory.
     pub fn get_attr(alloc: Global, expr: Expr, attr: RcStr) -> Result<Expr, AllocError>
         ensures tree { IfOk result (λ r. tree_of r ≡ get_attr (tree_of expr) (rc_str_bytes attr)) }
         ensures place { IfOk result (λ r. place_of r ≡ None) }
@@ -330,7 +330,7 @@ impl Expr {
         Ok(Expr::of_kind(ExprKind::GetAttr { expr, attr }))
     }
 
-    /// Whether an attribute is there. Answers want of memory.
+    /// Whether an attribute is there. Fails only when out of memory.
     pub fn has_attr(alloc: Global, expr: Expr, attr: RcStr) -> Result<Expr, AllocError>
         ensures tree { IfOk result (λ r. tree_of r ≡ has_attr (tree_of expr) (rc_str_bytes attr)) }
         ensures place { IfOk result (λ r. place_of r ≡ None) }
@@ -339,7 +339,7 @@ impl Expr {
         Ok(Expr::of_kind(ExprKind::HasAttr { expr, attr }))
     }
 
-    /// Whether attributes are there, one after the other. Of one attribute it is `has_attr`. Answers want of memory.
+    /// Whether attributes are there, one after the other. Of one attribute it is `has_attr`. Fails only when out of memory.
     pub fn extended_has_attr(
         alloc: Global,
         expr: Expr,
@@ -356,7 +356,7 @@ impl Expr {
         Ok(Expr::of_kind(ExprKind::ExtHasAttr { expr, attrs }))
     }
 
-    /// Whether a text matches a pattern. Answers want of memory.
+    /// Whether a text matches a pattern. Fails only when out of memory.
     pub fn like(alloc: Global, expr: Expr, pattern: Pattern) -> Result<Expr, AllocError>
         ensures tree { IfOk result (λ r. tree_of r ≡ like (tree_of expr) (pattern_of pattern)) }
         ensures place { IfOk result (λ r. place_of r ≡ None) }
@@ -365,7 +365,7 @@ impl Expr {
         Ok(Expr::of_kind(ExprKind::Like { expr, pattern }))
     }
 
-    /// Whether an entity is of a type. Answers want of memory.
+    /// Whether an entity is of a type. Fails only when out of memory.
     pub fn is_entity_type(
         alloc: Global,
         expr: Expr,

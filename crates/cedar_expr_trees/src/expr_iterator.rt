@@ -25,7 +25,7 @@ impl<'a, T> ExprIterator<'a, T> {
     ghost use Rattle.cedar_expr_trees.specs.Trees.{tree_of};
     ghost use Rattle.cedar_expr_trees.specs.Positions.{exprs_left};
 
-    /// The iterator over the subexpressions of this expression. Answers want of memory.
+    /// The iterator over the subexpressions of this expression. Fails only when out of memory.
     #[tactic(auto, using(crate::proofs::Walked::trees_of_positions))]
     pub fn new(alloc: Global, expr: &'a Expr<T>) -> Result<ExprIterator<'a, T>, AllocError>
         ensures positions { IfOk result (λ i. exprs_left i ≡ positions expr.entry.now) }
@@ -180,7 +180,7 @@ impl<T> Expr<T> {
     ghost use Rattle.cedar_expr_trees.specs.Trees.{tree_of};
     ghost use Rattle.cedar_expr_trees.specs.Positions.{exprs_left, slots_left, unknowns_left, slot_at};
 
-    /// The subexpressions, each place once: a node before its children, and children in order. Answers want of memory.
+    /// The subexpressions, each place once: a node before its children, and children in order. Fails only when out of memory.
     pub fn subexpressions(&self, alloc: Global) -> Result<ExprIterator<'_, T>, AllocError>
         ensures positions { IfOk result (λ i. exprs_left i ≡ positions self.entry.now) }
         ensures trees { IfOk result (λ i. map tree_of (exprs_left i) ≡ subexpressions (tree_of self.entry.now)) }
@@ -188,7 +188,7 @@ impl<T> Expr<T> {
         ExprIterator::new(alloc, self)
     }
 
-    /// The slots, each occurrence, with their places. Answers want of memory.
+    /// The slots, each occurrence, with their places. Fails only when out of memory.
     #[tactic(auto, using(crate::proofs::Walked::slots_of_positions))]
     pub fn slots(&self, alloc: Global) -> Result<Slots<'_, T>, AllocError>
         ensures positions { IfOk result (λ i. slots_left i ≡ filter_map slot_at (positions self.entry.now)) }
@@ -198,7 +198,7 @@ impl<T> Expr<T> {
         Ok(Slots { exprs })
     }
 
-    /// The unknowns, each occurrence. Answers want of memory.
+    /// The unknowns, each occurrence. Fails only when out of memory.
     #[tactic(auto, using(crate::proofs::Walked::unknowns_of_positions))]
     pub fn unknowns(&self, alloc: Global) -> Result<Unknowns<'_, T>, AllocError>
         ensures { IfOk result (λ i. unknowns_left i ≡ unknowns (tree_of self.entry.now)) }

@@ -18,8 +18,8 @@ use std::collections::BTreeMap;
 use std::rc::{Rc, RcStr};
 
 impl Expr {
-    /// A record, by pairs of names and expressions. Refuses a name that stands twice, whatever stands under it, and answers want
-    /// of memory.
+    /// A record, by pairs of names and expressions. Refuses a name that stands twice, whatever stands under it, and fails when
+    /// out of memory.
     pub fn record(
         alloc: Global,
         pairs: Vec<(RcStr, Expr)>,
@@ -35,7 +35,7 @@ impl Expr {
     }
 }
 
-/// The map of these pairs. Refuses a name that stands twice, whatever stands under it, and answers want of memory.
+/// The map of these pairs. Refuses a name that stands twice, whatever stands under it, and fails when out of memory.
 pub fn field_map<V: Drop>(
     alloc: Global,
     pairs: Vec<(RcStr, V)>,

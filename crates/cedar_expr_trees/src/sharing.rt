@@ -6,7 +6,7 @@ ghost use Rattle.std.specs.Prelude.{◌≡◌, IfOk};
 use std::alloc::{AllocError, Global};
 use std::rc::Rc;
 
-/// Two values, shared. Answers want of memory, and drops both then.
+/// Two values, shared. Fails only when out of memory, and drops both then.
 pub fn share_two<T: Drop>(alloc: Global, a: T, b: T) -> Result<(Rc<T>, Rc<T>), AllocError>
     ensures { IfOk result (λ r. (r.0.value ≡ «a») × (r.1.value ≡ «b»)) }
 {
@@ -15,7 +15,7 @@ pub fn share_two<T: Drop>(alloc: Global, a: T, b: T) -> Result<(Rc<T>, Rc<T>), A
     Ok((a, b))
 }
 
-/// Three values, shared. Answers want of memory, and drops all of them then.
+/// Three values, shared. Fails only when out of memory, and drops all of them then.
 pub fn share_three<T: Drop>(
     alloc: Global,
     a: T,

@@ -9,7 +9,7 @@ use std::alloc::{AllocError, Global};
 use std::collections::BTreeMap;
 use std::rc::RcStr;
 
-/// The map of these pairs. Of a repeated name the last stands. Answers out of memory.
+/// The map of these pairs. Of a repeated name the last stands. Fails only when out of memory.
 pub fn field_map<V: Drop>(
     alloc: Global,
     pairs: Vec<(RcStr, V)>,

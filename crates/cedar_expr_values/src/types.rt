@@ -106,7 +106,7 @@ pub trait StaticallyTyped {
     /// The core type that it shows.
     ghost core_type: { Self → CoreType };
 
-    /// The core type. Answers out of memory.
+    /// The core type. Fails only when out of memory.
     fn type_of(&self) -> Result<Type, AllocError>
         ensures { IfOk result (λ t. core_of t ≡ core_type self.now) };
 }

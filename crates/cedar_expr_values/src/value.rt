@@ -150,14 +150,14 @@ impl<X: ExtensionValue> Set<X> {
     ghost use Rattle.cedar_expr_values.specs.Values.{made, made_list, mades, bare, bares, members_as_made};
     ghost use Rattle.cedar_expr_values.specs.Hashed.{all_literals, HoldsLiterals};
 
-    /// The empty set. Answers out of memory.
+    /// The empty set. Fails only when out of memory.
     pub fn empty(alloc: Global) -> Result<Set<X>, AllocError>
         ensures { IfOk result (λ s. mades X.seen s ≡ no_mades) }
     {
         Set::of_members(alloc, Vec::new(alloc))
     }
 
-    /// The set of these values. Of equal ones it keeps the first. Answers out of memory.
+    /// The set of these values. Of equal ones it keeps the first. Fails only when out of memory.
     pub fn new(alloc: Global, values: Vec<Value<X>>) -> Result<Set<X>, AllocError>
         ensures members { IfOk result (λ s. bares X.seen s ≡ members_made (map (bare X.seen) values.items)) }
         ensures as_made { IfOk result (λ s. mades X.seen s ≡ members_as_made (map (made X.seen) values.items)) }
@@ -166,7 +166,7 @@ impl<X: ExtensionValue> Set<X> {
         Set::of_members(alloc, members)
     }
 
-    /// The set of these literals. Answers out of memory.
+    /// The set of these literals. Fails only when out of memory.
     pub fn from_lits(alloc: Global, literals: Vec<Literal>) -> Result<Set<X>, AllocError>
         ensures members { IfOk result (λ s. bares X.seen s ≡ members_made (map (λ l. prim (literal_of l)) literals.items)) }
         ensures as_made { IfOk result (λ s. mades X.seen s ≡ members_as_made (map (λ l. made_prim (literal_of l)) literals.items)) }
@@ -324,14 +324,14 @@ impl<X: ExtensionValue> Record<X> {
     ghost use Rattle.cedar_expr_model.specs.Records.{in_order};
     ghost use Rattle.cedar_expr_values.specs.Values.{fields_made, made_fields, made_pair};
 
-    /// No fields. Answers out of memory.
+    /// No fields. Fails only when out of memory.
     pub fn empty(alloc: Global) -> Result<Record<X>, AllocError>
         ensures { IfOk result (λ r. fields_made X.seen r ≡ no_made_fields) }
     {
         Record::new(alloc, Vec::new(alloc))
     }
 
-    /// The fields with these values by name. Of a repeated name the last stands. Answers out of memory.
+    /// The fields with these values by name. Of a repeated name the last stands. Fails only when out of memory.
     pub fn new(alloc: Global, pairs: Vec<(RcStr, Value<X>)>) -> Result<Record<X>, AllocError>
         ensures { IfOk result (λ r. fields_made X.seen r ≡ made_fields (in_order (map (made_pair X.seen) pairs.items))) }
     {
@@ -373,7 +373,7 @@ impl<X: ExtensionValue> ValueKind<X> {
     ghost use Rattle.cedar_expr_leaves.specs.Literals.{literal_of};
     ghost use Rattle.cedar_expr_values.specs.Values.{made, made_kind, fields_made, made_pair, bare, bare_kind, bare_pair, members_as_made, record_as_made};
 
-    /// The empty set. Answers out of memory.
+    /// The empty set. Fails only when out of memory.
     pub fn empty_set(alloc: Global) -> Result<ValueKind<X>, AllocError>
         ensures { IfOk result (λ k. made_kind X.seen k ≡ made_set no_mades) }
     {
@@ -381,7 +381,7 @@ impl<X: ExtensionValue> ValueKind<X> {
         Ok(ValueKind::Set(set))
     }
 
-    /// The empty record. Answers out of memory.
+    /// The empty record. Fails only when out of memory.
     pub fn empty_record(alloc: Global) -> Result<ValueKind<X>, AllocError>
         ensures { IfOk result (λ k. made_kind X.seen k ≡ made_record no_made_fields) }
     {
@@ -389,7 +389,7 @@ impl<X: ExtensionValue> ValueKind<X> {
         Ok(ValueKind::Record(fields))
     }
 
-    /// The set of these values. Of equal ones it keeps the first. Answers out of memory.
+    /// The set of these values. Of equal ones it keeps the first. Fails only when out of memory.
     pub fn set(alloc: Global, values: Vec<Value<X>>) -> Result<ValueKind<X>, AllocError>
         ensures members { IfOk result (λ k. bare_kind X.seen k ≡ set_made (map (bare X.seen) values.items)) }
         ensures as_made { IfOk result (λ k. made_kind X.seen k ≡ made_set (members_as_made (map (made X.seen) values.items))) }
@@ -398,7 +398,7 @@ impl<X: ExtensionValue> ValueKind<X> {
         Ok(ValueKind::Set(set))
     }
 
-    /// The set of these literals. Answers out of memory.
+    /// The set of these literals. Fails only when out of memory.
     pub fn set_of_lits(alloc: Global, literals: Vec<Literal>) -> Result<ValueKind<X>, AllocError>
         ensures members { IfOk result (λ k. bare_kind X.seen k ≡ set_made (map (λ l. prim (literal_of l)) literals.items)) }
         ensures as_made { IfOk result (λ k. made_kind X.seen k ≡ made_set (members_as_made (map (λ l. made_prim (literal_of l)) literals.items))) }
@@ -407,7 +407,7 @@ impl<X: ExtensionValue> ValueKind<X> {
         Ok(ValueKind::Set(set))
     }
 
-    /// The record of these values by name. Of a repeated name the last stands. Answers out of memory.
+    /// The record of these values by name. Of a repeated name the last stands. Fails only when out of memory.
     pub fn record(alloc: Global, pairs: Vec<(RcStr, Value<X>)>) -> Result<ValueKind<X>, AllocError>
         ensures fields { IfOk result (λ k. bare_kind X.seen k ≡ record_made (map (bare_pair X.seen) pairs.items)) }
         ensures as_made { IfOk result (λ k. made_kind X.seen k ≡ record_as_made (map (made_pair X.seen) pairs.items)) }
@@ -434,7 +434,7 @@ impl<X: ExtensionValue> Value<X> {
     ghost use Rattle.cedar_expr_leaves.specs.Literals.{literal_of};
     ghost use Rattle.cedar_expr_values.specs.Values.{made, made_kind, fields_made, made_pair, bare, bare_pair, members_as_made, record_as_made, place_of, kind_of};
 
-    /// The empty set, at a place. Answers out of memory.
+    /// The empty set, at a place. Fails only when out of memory.
     pub fn empty_set(alloc: Global, loc: Option<Loc>) -> Result<Value<X>, AllocError>
         ensures value { IfOk result (λ v. made X.seen v ≡ made_set no_mades) }
         ensures place { IfOk result (λ v. place_of v ≡ loc) }
@@ -443,7 +443,7 @@ impl<X: ExtensionValue> Value<X> {
         Ok(Value::new(kind, loc))
     }
 
-    /// The empty record, at a place. Answers out of memory.
+    /// The empty record, at a place. Fails only when out of memory.
     pub fn empty_record(alloc: Global, loc: Option<Loc>) -> Result<Value<X>, AllocError>
         ensures value { IfOk result (λ v. made X.seen v ≡ made_record no_made_fields) }
         ensures place { IfOk result (λ v. place_of v ≡ loc) }
@@ -452,7 +452,7 @@ impl<X: ExtensionValue> Value<X> {
         Ok(Value::new(kind, loc))
     }
 
-    /// The set of these values, at a place. Of equal ones it keeps the first. Answers out of memory.
+    /// The set of these values, at a place. Of equal ones it keeps the first. Fails only when out of memory.
     pub fn set(
         alloc: Global,
         values: Vec<Value<X>>,
@@ -466,7 +466,7 @@ impl<X: ExtensionValue> Value<X> {
         Ok(Value::new(kind, loc))
     }
 
-    /// The set of these literals, at a place. Answers out of memory.
+    /// The set of these literals, at a place. Fails only when out of memory.
     pub fn set_of_lits(
         alloc: Global,
         literals: Vec<Literal>,
@@ -480,7 +480,7 @@ impl<X: ExtensionValue> Value<X> {
         Ok(Value::new(kind, loc))
     }
 
-    /// The record of these values by name, at a place. Of a repeated name the last stands. Answers out of memory.
+    /// The record of these values by name, at a place. Of a repeated name the last stands. Fails only when out of memory.
     pub fn record(
         alloc: Global,
         pairs: Vec<(RcStr, Value<X>)>,

@@ -133,7 +133,7 @@ impl<'f, 't, 'e> Gate<'f, 't, 'e> {
     }
 
     /// The ids of the policies that may decide a request of these types, in the order of the policies: those whose condition isn't
-    /// False in each environment of these types that fits their bindings. Fails only out of memory.
+    /// False in each environment of these types that fits their bindings. Fails only when out of memory.
     pub fn policies_for(
         &self,
         alloc: Global,

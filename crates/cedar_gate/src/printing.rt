@@ -38,7 +38,7 @@ pub(crate) struct Printed {
     pub(crate) text: String,
 }
 
-/// What is printed for an input, with its status. Fails only out of memory.
+/// What is printed for an input, with its status. Fails only when out of memory.
 pub(crate) fn print_input(
     alloc: Global,
     bytes: &[u8],

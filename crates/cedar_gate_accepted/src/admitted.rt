@@ -47,7 +47,7 @@ fn check_by(
 /// typing: of declarations, of policies by themselves, and the scope rules.
 ///
 /// # Errors
-/// Want of memory, or a fault of what is handed in, by the first rule that is broken.
+/// Out of memory, or a fault of what is handed in, by the first rule that is broken.
 #[tactic(auto, using(crate::proofs::ChecksTogether::as_policies))]
 pub fn admitted_schema(
     alloc: Global,

@@ -74,8 +74,8 @@ fn check_over<S: TypingSchema>(
     Ok(check)
 }
 
-/// What typing, in the strict way, and levels say of the policy: its condition is typed once in each of its environments. Answers
-/// want of memory.
+/// What typing, in the strict way, and levels say of the policy: its condition is typed once in each of its environments. Fails only
+/// when out of memory.
 pub fn check_policy<S: SchemaEnvironments>(
     alloc: Global,
     schema: &S,

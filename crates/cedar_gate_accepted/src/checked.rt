@@ -80,8 +80,8 @@ fn add_policy<S: SchemaEnvironments>(
     add_violations(&mut checked.violations, check.violations)
 }
 
-// What typing and levels say of these policies: the condition of each is typed once in each of its environments. Answers want of
-// memory.
+// What typing and levels say of these policies: the condition of each is typed once in each of its environments. Fails only when
+// out of memory.
 pub(crate) fn check_all<S: SchemaEnvironments>(
     alloc: Global,
     schema: &S,

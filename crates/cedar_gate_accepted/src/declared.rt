@@ -68,7 +68,7 @@ fn built(
 /// functions give, and none is external.
 ///
 /// # Errors
-/// Want of memory, or a fault of the declarations: one that makes them ill-formed, or an external declaration.
+/// Out of memory, or a fault of the declarations: one that makes them ill-formed, or an external declaration.
 #[tactic(auto, using(crate::proofs::Building::external_refused))]
 pub fn declared_schema(
     alloc: Global,

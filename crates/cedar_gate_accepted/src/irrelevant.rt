@@ -67,7 +67,7 @@ fn are_excused<S: TypingSchema>(
 }
 
 /// Whether the policy is irrelevant for requests of these types: its condition is False in each environment of them that fits its
-/// bindings. Answers want of memory.
+/// bindings. Fails only when out of memory.
 pub fn is_irrelevant_for<S: SchemaEnvironments>(
     alloc: Global,
     schema: &S,

@@ -16,7 +16,7 @@ use std::alloc::Global;
 /// Checks the scope rules, in their order, by a schema that answers as that of the declarations does: entity types, actions, members.
 ///
 /// # Errors
-/// Want of memory, or the fault of the first rule that is broken.
+/// Out of memory, or the fault of the first rule that is broken.
 #[tactic(auto, using(crate::proofs::Scopes::types_refused, crate::proofs::Scopes::actions_refused, crate::proofs::Scopes::members_refused, crate::proofs::Scopes::names_kept))]
 pub fn check_names<S: ScopeSchema>(
     alloc: Global,

@@ -18,7 +18,7 @@ use std::alloc::Global;
 /// Checks the rules that ask no schema, in their order: ids, slots, unknowns and nesting.
 ///
 /// # Errors
-/// Want of memory, or the fault of the first rule that is broken.
+/// Out of memory, or the fault of the first rule that is broken.
 #[tactic(auto, using(crate::proofs::Alone::repeated_refused, crate::proofs::Alone::unlinked_refused, crate::proofs::Alone::slots_refused, crate::proofs::Alone::unknowns_refused, crate::proofs::Alone::nesting_refused, crate::proofs::Alone::all_kept))]
 pub fn check_policies(alloc: Global, policies: &[Policy], limit: NestLimit) -> Result<(), GateFault>
     ensures kept { (s : Submission) → HasPolicies (policies_of policies.now) (levels_of limit) s → OnOk result (is_clear_of_all plain_causes s ≡ true) }

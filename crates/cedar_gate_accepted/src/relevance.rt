@@ -31,7 +31,7 @@ fn add_relevant<S: SchemaEnvironments>(
     Ok(())
 }
 
-/// The ids of those of these policies that aren't irrelevant for requests of these types, in their order. Fails only out of memory.
+/// The ids of those of these policies that aren't irrelevant for requests of these types, in their order. Fails only when out of memory.
 pub fn relevant<S: SchemaEnvironments>(
     alloc: Global,
     schema: &S,

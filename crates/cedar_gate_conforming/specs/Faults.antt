@@ -19,7 +19,7 @@ fault_number Ancestor = 8
 fault_number Context = 9
 fault_number OpenPart = 10
 
--- the fault; want of memory is none
+-- the fault; out of memory is none
 abbrev pub fault_seen : code.ConformFault → Option ConformFault
 fault_seen OutOfMemory = None
 fault_seen Undeclared = Some undeclared
@@ -33,10 +33,10 @@ fault_seen Ancestor = Some ancestor
 fault_seen Context = Some context_value
 fault_seen OpenPart = Some open_part
 
--- It is the first fault that is there. Want of memory says nothing.
+-- It is the first fault that is there. Out of memory says nothing.
 abbrev pub IsFirst : (ConformFault → Bool) → code.ConformFault → Type 0
 IsFirst has f = IfSome (fault_seen f) (λ g. first_fault has ≡ Some g)
 
--- The fault is there, and the first. Want of memory says nothing.
+-- The fault is there, and the first. Out of memory says nothing.
 abbrev pub IsThere : (ConformFault → Bool) → code.ConformFault → Type 0
 IsThere has f = IfSome (fault_seen f) (λ g. (has g ≡ true) × (first_fault has ≡ Some g))

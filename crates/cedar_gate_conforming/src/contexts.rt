@@ -16,7 +16,7 @@ use cedar_schema_joins::typecheck_value;
 use cedar_schema_types::Type;
 use std::alloc::AllocError;
 
-// Whether the context is a value that isn't of the type. Answers want of memory.
+// Whether the context is a value that isn't of the type. Fails only when out of memory.
 pub(crate) fn is_wrong_context(ty: &Type, context: Option<&Context>) -> Result<bool, AllocError>
     ensures { IfOk result (λ b. b ≡ where_known (context_seen context.entry) (λ v. not (has_type v (type_of ty.now)))) }
 {
@@ -26,7 +26,7 @@ pub(crate) fn is_wrong_context(ty: &Type, context: Option<&Context>) -> Result<b
     }
 }
 
-// Whether the record of these fields isn't of the type. Answers want of memory.
+// Whether the record of these fields isn't of the type. Fails only when out of memory.
 fn is_wrong_record(ty: &Type, fields: &Record<ExtValue>) -> Result<bool, AllocError>
     ensures { IfOk result (λ b. b ≡ not (has_type (record_of (bare_fields (fields_made extension_of fields.now))) (type_of ty.now))) }
 {

@@ -6,7 +6,7 @@ use thiserror::Error;
 /// Why an entity or a request doesn't conform to a schema.
 #[derive(Clone, Copy, Debug, PartialEq, Eq, Error)]
 pub enum ConformFault {
-    /// Want of memory.
+    /// Out of memory.
     #[error("out of memory")]
     OutOfMemory,
     /// The entity type, or the action, isn't declared.

@@ -13,7 +13,7 @@ use cedar_store_entities::Entity;
 use std::alloc::{AllocError, Global};
 
 /// The declared actions as entities, each once, with all actions that it descends from: those of each schema by which the same
-/// conforms as by what is kept. Answers want of memory.
+/// conforms as by what is kept. Fails only when out of memory.
 pub fn actions(alloc: Global, schema: &ValidatorSchema) -> Result<Vec<Entity>, AllocError>
     ensures { (s : Schema) → ConformsAlike s (schema_kept schema.now) → IfOk result (λ es. AreActionEntities s (map entity_pair es.items)) }
 {

@@ -28,7 +28,7 @@ use std::alloc::AllocError;
 /// Checks whether the request conforms to the schema: to each by which the same conforms as by what is kept.
 ///
 /// # Errors
-/// Want of memory, or the first of its faults.
+/// Out of memory, or the first of its faults.
 pub fn check_request(schema: &ValidatorSchema, request: &Request) -> Result<(), ConformFault>
     ensures conforms { (s : Schema) → ConformsAlike s (schema_kept schema.now) → OnOk result (RequestConforms s (request_seen request.now)) }
     ensures refused { (s : Schema) → ConformsAlike s (schema_kept schema.now) → IfErr result (IsThere (has_request_fault s (request_seen request.now))) }
@@ -145,7 +145,7 @@ fn is_no_entry_member(schema: &ValidatorSchema, entry: &EntityUIDEntry) -> bool
     }
 }
 
-// Whether the action is known and declared, and the context a value that isn't of its type. Answers want of memory.
+// Whether the action is known and declared, and the context a value that isn't of its type. Fails only when out of memory.
 fn has_wrong_context(schema: &ValidatorSchema, request: &Request) -> Result<bool, AllocError>
     ensures { IfOk result (λ b. b ≡ of_kept_action (schema_kept schema.now) (request_seen request.now) (has_wrong_context (request_seen request.now))) }
 {

@@ -20,7 +20,7 @@ use cedar_schema_fragments::{FragmentError, ValidatorNamespaceDef, ValidatorSche
 use std::alloc::{AllocError, Global};
 
 /// What is declared in each namespace of a fragment as it is written, under full names, with what each name may stand for. The
-/// fragment is copied. Refuses actions of a reserved type, and answers want of memory.
+/// fragment is copied. Refuses actions of a reserved type, and fails when out of memory.
 pub fn fragment_of(
     alloc: Global,
     fragment: &Fragment<RawName>,
@@ -60,8 +60,8 @@ fn copy_space(space: &Option<InternalName>) -> Result<Option<InternalName>, Allo
     }
 }
 
-/// What is declared in each of these fragments, under full names, in their order. Refuses actions of a reserved type, and answers
-/// want of memory.
+/// What is declared in each of these fragments, under full names, in their order. Refuses actions of a reserved type, and fails
+/// when out of memory.
 pub fn fragments_of(
     alloc: Global,
     fragments: &[Fragment<RawName>],

@@ -11,7 +11,7 @@ pub fn completions_know_what_is_known()
     ensures more { CompletionsKnowMore }
 {}
 
-/// Whatever a run did by a moment, where it stops for want of memory too: no uid was asked for twice, only what is near was, few rounds
+/// Whatever a run did by a moment, where it stops when out of memory too: no uid was asked for twice, only what is near was, few rounds
 /// follow the last binding, each decision that was owed was given, and the transcript is legal in each world that completes the moment. A
 /// list that is wanted then is near and new.
 pub fn moments_keep()

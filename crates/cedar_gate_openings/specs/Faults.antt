@@ -29,7 +29,7 @@ bind_fault_number binding.ContextFails = 4
 abbrev pub opens : PartialRequest → Type 0
 opens r = (f : session.OpenRefusal) → session.OpenFault r f → ⊥
 
--- The fault of opening is there. Want of memory says nothing.
+-- The fault of opening is there. Out of memory says nothing.
 abbrev pub IsOpenFault : PartialRequest → OpenFault → Type 0
 IsOpenFault r opening.OutOfMemory = Unit {0}
 IsOpenFault r opening.QuoteInName = session.OpenFault r session.quote_in_name
@@ -46,7 +46,7 @@ IsNameFault us opening.OutOfMemory = Unit {0}
 IsNameFault us opening.QuoteInName = (u : Unknown) × Contains us u × Contains u.name 34
 IsNameFault us opening.NameOfVariable = (u : Unknown) × Contains us u × Contains session.variable_names u.name
 
--- The fault of a value is there. Want of memory says nothing.
+-- The fault of a value is there. Out of memory says nothing.
 abbrev pub IsValueFault : PartialRequest → Text → Made → BindFault → Type 0
 IsValueFault r n m binding.OutOfMemory = Unit {0}
 IsValueFault r n m binding.NotOpen = ⊥
@@ -54,7 +54,7 @@ IsValueFault r n m binding.AgainstAnnotation = IsAgainst r n m
 IsValueFault r n m binding.NoEntityOrRecord = IsOfWrongForm r n m
 IsValueFault r n m binding.ContextFails = ⊥
 
--- The fault of a value is there for the entry of a variable, and for the unknowns of a context. Want of memory says nothing.
+-- The fault of a value is there for the entry of a variable, and for the unknowns of a context. Out of memory says nothing.
 abbrev pub IsEntryFault : Option Entry → Made → BindFault → Type 0
 IsEntryFault e m binding.OutOfMemory = Unit {0}
 IsEntryFault e m binding.NotOpen = ⊥

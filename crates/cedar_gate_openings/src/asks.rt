@@ -24,12 +24,12 @@ pub(crate) trait Asks {
     /// What it answers.
     ghost holds: { Self → ModelUnknown → Bool };
 
-    /// Answers for an unknown. Fails only for want of memory.
+    /// Answers for an unknown. Fails only when out of memory.
     fn asks(&self, unknown: &Unknown) -> Result<bool, AllocError>
         ensures { IfOk result (λ b. b ≡ holds self.now (unknown_of unknown.now)) };
 }
 
-/// Whether the question holds of some unknown of the expression. Errors: want of memory.
+/// Whether the question holds of some unknown of the expression. Errors: out of memory.
 #[tactic(auto, using(crate::proofs::Asking::any_stop, crate::proofs::Asking::any_next, crate::proofs::Asking::any_end))]
 pub(crate) fn any_unknown<A: Asks>(
     alloc: Global,

@@ -15,8 +15,8 @@ use std::alloc::{AllocError, Global};
 use std::collections::btree_map::Iter;
 use std::rc::RcStr;
 
-/// The uids that the entity mentions: those of its attributes that are values, by their names, and then those of its tags. Answers want
-/// of memory.
+/// The uids that the entity mentions: those of its attributes that are values, by their names, and then those of its tags. Fails only when
+/// out of memory.
 pub fn mentioned_by(alloc: Global, entity: &Entity) -> Result<Vec<EntityUID>, AllocError>
     ensures { IfOk result (λ us. uids us.items ≡ mentioned_by_found (held (entity_of entity.now))) }
 {

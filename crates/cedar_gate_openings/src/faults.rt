@@ -8,7 +8,7 @@ use thiserror::Error;
 /// Why a session isn't opened.
 #[derive(Clone, Copy, Debug, PartialEq, Eq, Error)]
 pub enum OpenFault {
-    /// Want of memory.
+    /// Out of memory.
     #[error("out of memory")]
     OutOfMemory,
     /// The name of an unknown in the context holds a double quote.
@@ -22,7 +22,7 @@ pub enum OpenFault {
 /// Why a binding is refused.
 #[derive(Clone, Copy, Debug, PartialEq, Eq, Error)]
 pub enum BindFault {
-    /// Want of memory.
+    /// Out of memory.
     #[error("out of memory")]
     OutOfMemory,
     /// The name isn't open.

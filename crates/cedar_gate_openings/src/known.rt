@@ -11,7 +11,7 @@ use cedar_evaluator_requests::{Context, EntityUIDEntry, Request};
 use cedar_expr_names::EntityUID;
 use std::alloc::{AllocError, Global};
 
-/// The roots of a request: its principal, its resource and what its context mentions, as far as they are known. Answers want of memory.
+/// The roots of a request: its principal, its resource and what its context mentions, as far as they are known. Fails only when out of memory.
 #[tactic(auto, using(crate::proofs::Rooted::in_a_row))]
 pub fn roots(alloc: Global, request: &Request) -> Result<Vec<EntityUID>, AllocError>
     ensures { IfOk result (λ us. uids us.items ≡ known_roots (request_of request.now)) }

@@ -32,7 +32,7 @@ pub fn add_mentioned<X: ExtensionValue>(
     }
 }
 
-/// Adds the uids that the fields mention, in their order. Fails only out of memory.
+/// Adds the uids that the fields mention, in their order. Fails only when out of memory.
 #[cycle(mentions)]
 pub fn add_mentioned_in<X: ExtensionValue>(
     pairs: &BTreeMap<RcStr, Value<X>>,

@@ -30,7 +30,7 @@ pub fn entry_named<'r>(request: &'r Request, name: &str) -> Option<&'r EntityUID
     }
 }
 
-// The record of these fields. Fails only for want of memory.
+// The record of these fields. Fails only when out of memory.
 pub(crate) fn record_of(fields: &RestrictedFields) -> Result<Expr, AllocError>
     ensures { IfOk result (λ e. tree_of e ≡ restricted_tree fields.now) }
 {
@@ -48,7 +48,7 @@ fn is_unknown(entry: Option<&EntityUIDEntry>) -> bool
     }
 }
 
-// Whether the name is open in the context. Fails only for want of memory.
+// Whether the name is open in the context. Fails only when out of memory.
 fn is_open_in(alloc: Global, context: Option<&Context>, name: &str) -> Result<bool, AllocError>
     ensures { IfOk result (λ b. b ≡ session.is_open_context (context_or_unknown (option_map (λ c. c.now) context.entry)) name.entry.now) }
 {
@@ -61,7 +61,7 @@ fn is_open_in(alloc: Global, context: Option<&Context>, name: &str) -> Result<bo
     }
 }
 
-/// Whether the name was open in the request and isn't bound. Fails only for want of memory.
+/// Whether the name was open in the request and isn't bound. Fails only when out of memory.
 pub fn is_open(
     alloc: Global,
     request: &Request,
@@ -79,7 +79,7 @@ pub fn is_open(
     is_open_in(alloc, request.context(), name)
 }
 
-// Whether something of the context isn't bound. Fails only for want of memory.
+// Whether something of the context isn't bound. Fails only when out of memory.
 fn has_open_in(
     alloc: Global,
     context: Option<&Context>,
@@ -103,7 +103,7 @@ fn is_open_variable(request: &Request, bound: &HashMap<RcStr, V>, name: &str) ->
     !is_bound(bound, name) && is_unknown(entry_named(request, name))
 }
 
-// Whether a variable is open, or something of the context. Fails only for want of memory.
+// Whether a variable is open, or something of the context. Fails only when out of memory.
 fn any_open(alloc: Global, request: &Request, bound: &HashMap<RcStr, V>) -> Result<bool, AllocError>
     ensures { IfOk result (λ b. b ≡ has_open_by (request_of request.now) (bound_in bound.now)) }
 {
@@ -116,7 +116,7 @@ fn any_open(alloc: Global, request: &Request, bound: &HashMap<RcStr, V>) -> Resu
     has_open_in(alloc, request.context(), bound)
 }
 
-/// Whether something is open. Fails only for want of memory.
+/// Whether something is open. Fails only when out of memory.
 pub fn has_open(
     alloc: Global,
     request: &Request,
@@ -159,7 +159,7 @@ fn check_context(alloc: Global, context: Option<&Context>) -> Result<(), OpenFau
 ///
 /// # Errors
 ///
-/// 1 the name of an unknown in the context holds a double quote, 2 it is that of a variable; or want of memory.
+/// 1 the name of an unknown in the context holds a double quote, 2 it is that of a variable; or out of memory.
 pub fn check_names(alloc: Global, request: &Request) -> Result<(), OpenFault>
     ensures opens { OnOk result (opens (request_of request.now)) }
     ensures refused { IfErr result (λ f. IsOpenFault (request_of request.now) f) }

@@ -46,7 +46,7 @@ fn is_record(value: &V) -> bool
     }
 }
 
-// Whether the value is against an annotation of an unknown of this name in the context. Fails only for want of memory.
+// Whether the value is against an annotation of an unknown of this name in the context. Fails only when out of memory.
 fn is_against(
     alloc: Global,
     context: Option<&Context>,
@@ -137,7 +137,7 @@ fn check_context(name: &str, value: &V) -> Result<(), BindFault>
 ///
 /// # Errors
 ///
-/// 2 the value is against the annotation, 3 a variable gets no entity or `context` no record; or want of memory.
+/// 2 the value is against the annotation, 3 a variable gets no entity or `context` no record; or out of memory.
 #[tactic(auto, using(crate::proofs::Refused::entry_fault, crate::proofs::Refused::unknown_fault, crate::proofs::Refused::context_fault))]
 pub fn check_value(alloc: Global, request: &Request, name: &str, value: &V) -> Result<(), BindFault>
     ensures takes { OnOk result (takes (request_of request.now) name.now (made extension_of value.now)) }

@@ -8,7 +8,7 @@ use Rattle.cedar_schema_builder.specs.declared.err.SchemaError.TheVariants as er
 use Rattle.cedar_gate_rules.specs.declared.fault.GateFault.{GateFault}
 use Rattle.cedar_gate_rules.specs.declared.fault.GateFault.TheVariants.{OutOfMemory, Schema, External, RepeatedPolicy, UnlinkedSlot, SlotOutsideScope, UnknownInPolicy, Nesting, UnknownEntityType, UnknownAction, EnumMember, IllTyped, Level}
 
--- the cause that a fault names. Want of memory names none.
+-- the cause that a fault names. Out of memory names none.
 abbrev pub cause_named : GateFault → Option Cause
 cause_named OutOfMemory = None
 cause_named (Schema e) = option_map schema (fault_told e)

@@ -94,7 +94,7 @@ impl<T: Drop> From<AllocFailed<T>> for GateFault {
 impl From<SchemaError> for GateFault {
     ghost from_gives = { λ e f. f ≡ fault_of_schema e };
 
-    /// Want of memory stays that; any other error is a fault of the declarations.
+    /// Out of memory stays that; any other error is a fault of the declarations.
     fn from(error: SchemaError) -> GateFault {
         match error {
             SchemaError::OutOfMemory => GateFault::OutOfMemory,

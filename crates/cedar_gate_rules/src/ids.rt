@@ -10,7 +10,7 @@ use cedar_store_policies::Policy;
 use std::alloc::{AllocError, Global};
 use std::collections::BTreeSet;
 
-/// Whether no two of these policies have one id. Answers want of memory.
+/// Whether no two of these policies have one id. Fails only when out of memory.
 pub fn ids_are_distinct(alloc: Global, policies: &[Policy]) -> Result<bool, AllocError>
     ensures { IfOk result (λ b. b ≡ is_none (repeated bytes_eq (ids (policies_of policies.now)))) }
 {

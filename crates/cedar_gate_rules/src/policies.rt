@@ -41,7 +41,7 @@ pub fn are_linked(policies: &[Policy]) -> bool
     true
 }
 
-// Whether no slot stands in the body of the policy. Answers want of memory.
+// Whether no slot stands in the body of the policy. Fails only when out of memory.
 fn keeps_slots_in_scope(alloc: Global, policy: &Policy) -> Result<bool, AllocError>
     ensures { IfOk result (λ b. b ≡ keeps_slots_in_scope (policy_of policy.now)) }
 {
@@ -51,7 +51,7 @@ fn keeps_slots_in_scope(alloc: Global, policy: &Policy) -> Result<bool, AllocErr
     }
 }
 
-/// Whether no slot stands in the body of one of these policies. Answers want of memory.
+/// Whether no slot stands in the body of one of these policies. Fails only when out of memory.
 pub fn keep_slots_in_scope(alloc: Global, policies: &[Policy]) -> Result<bool, AllocError>
     ensures { IfOk result (λ b. b ≡ list_all keeps_slots_in_scope (policies_of policies.now)) }
 {

@@ -85,7 +85,7 @@ fn policies_keep<S: ScopeSchema>(
     Ok(true)
 }
 
-/// Whether the entity types that these policies name are declared, or those of declared actions. Answers want of memory.
+/// Whether the entity types that these policies name are declared, or those of declared actions. Fails only when out of memory.
 pub fn name_known_types<S: ScopeSchema>(
     alloc: Global,
     schema: &S,
@@ -96,7 +96,7 @@ pub fn name_known_types<S: ScopeSchema>(
     policies_keep(alloc, schema, ScopeRule::KnownTypes, policies)
 }
 
-/// Whether the uids of an action's type that these policies name are declared actions. Answers want of memory.
+/// Whether the uids of an action's type that these policies name are declared actions. Fails only when out of memory.
 pub fn name_known_actions<S: ScopeSchema>(
     alloc: Global,
     schema: &S,
@@ -107,7 +107,7 @@ pub fn name_known_actions<S: ScopeSchema>(
     policies_keep(alloc, schema, ScopeRule::KnownActions, policies)
 }
 
-/// Whether the uids of enumerated types that these policies name are declared members. Answers want of memory.
+/// Whether the uids of enumerated types that these policies name are declared members. Fails only when out of memory.
 pub fn name_known_members<S: ScopeSchema>(
     alloc: Global,
     schema: &S,

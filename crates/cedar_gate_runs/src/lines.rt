@@ -208,7 +208,7 @@ fn refusal(fault: &RunFault) -> Option<(&'static str, u32)>
     }
 }
 
-/// The lines of a run that was refused. Fails out of memory, and where the run ended so or with a fault of its host.
+/// The lines of a run that was refused. Fails when out of memory, and where the run ended so or with a fault of its host.
 pub fn push_stopped(out: &mut String, fault: &RunFault) -> Result<(), AllocError>
     ensures { OnOk result (Some (string_bytes out.new) ≡ option_map (λ end. string_bytes out.old ++ (lines.entry_lines 1 (entries_of (run_fault_transcript fault.now).entries.items) ++ end)) (refusal_line fault.now)) }
 {

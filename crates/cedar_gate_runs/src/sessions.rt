@@ -72,7 +72,7 @@ pub trait SessionCalls {
         ensures taken { OnOk result ((c : Course) (s : State) → stands c s self.old → (f : BindRefusal) → BindFault (session_of c) s (rc_str_bytes name) (made extension_of value) f → ⊥) }
         ensures refused { IfErr result (λ r. (c : Course) (s : State) → stands c s self.old → IsBindRefusal (session_of c) s (rc_str_bytes name) (made extension_of value) r) };
 
-    /// The decision that is known by now, if one is. Fails only out of memory.
+    /// The decision that is known by now, if one is. Fails only when out of memory.
     fn decision(&self, alloc: Global) -> Result<Option<Decision>, AllocError>
         ensures { IfOk result (λ d. (c : Course) (s : State) → stands c s self.now → DecidesInPart (session_of c) c.submission.policies s (option_map decision_of d)) };
 

@@ -71,7 +71,7 @@ fn answer_all(
     Ok(answers)
 }
 
-/// A copy of uids. Fails only out of memory.
+/// A copy of uids. Fails only when out of memory.
 pub fn copied(alloc: Global, uids: &[EntityUID]) -> Result<Vec<EntityUID>, AllocError>
     ensures { IfOk result (λ copy. map uid_of copy.items ≡ map uid_of uids.now) }
 {

@@ -34,7 +34,7 @@ use std::alloc::{AllocError, Global};
 
 /// The answer to the request of the evaluator, over its store, where each residual counts as an error: the decision, its reasons and the
 /// errors, in policy order. Where nothing is unknown, everything is loaded and the policies are within the limit, it is the answer by
-/// what the policies mean. Fails only out of memory.
+/// what the policies mean. Fails only when out of memory.
 pub fn respond<T: FunctionTable>(
     alloc: Global,
     evaluator: &Evaluator<'_, T>,
@@ -64,7 +64,7 @@ fn evaluate<T: FunctionTable>(
     Ok((verdicts, errors))
 }
 
-// The verdict on the policy; its error, if it has one, goes to the end of the errors. Fails only out of memory.
+// The verdict on the policy; its error, if it has one, goes to the end of the errors. Fails only when out of memory.
 fn add<T: FunctionTable>(
     alloc: Global,
     evaluator: &Evaluator<'_, T>,
@@ -80,7 +80,7 @@ fn add<T: FunctionTable>(
     Ok(verdict)
 }
 
-// Puts the error of the policy, if it has one, at the end. Fails only out of memory.
+// Puts the error of the policy, if it has one, at the end. Fails only when out of memory.
 fn put_error(
     policy: &Policy,
     outcome: Result<bool, EvaluationError>,
@@ -94,7 +94,7 @@ fn put_error(
     }
 }
 
-// Puts this error of the policy at the end. Fails only out of memory.
+// Puts this error of the policy at the end. Fails only when out of memory.
 fn put(
     policy: &Policy,
     error: EvaluationError,

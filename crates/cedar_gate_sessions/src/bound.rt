@@ -24,7 +24,7 @@ use std::alloc::{AllocError, Global};
 use std::collections::HashMap;
 use std::rc::RcStr;
 
-/// Binds the name to the value. Fails only out of memory, and then all is as before.
+/// Binds the name to the value. Fails only when out of memory, and then all is as before.
 pub(crate) fn put_value(
     bound: &mut HashMap<RcStr, V>,
     name: RcStr,
@@ -44,7 +44,7 @@ pub(crate) fn take_value(bound: &mut HashMap<RcStr, V>, name: &str)
     bound.remove(name);
 }
 
-/// Adds the roots of the request, as far as they are known. Fails only out of memory, and then all is as before.
+/// Adds the roots of the request, as far as they are known. Fails only when out of memory, and then all is as before.
 pub(crate) fn add_known_roots<S: Schema>(
     alloc: Global,
     schema: &S,

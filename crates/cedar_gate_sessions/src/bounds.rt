@@ -28,7 +28,7 @@ pub struct Bounds {
     pub may: Vec<PolicyID>,
 }
 
-/// The bounds by what is left of each policy: none where a policy met the limit. Fails only out of memory.
+/// The bounds by what is left of each policy: none where a policy met the limit. Fails only when out of memory.
 pub fn bounded(
     alloc: Global,
     policies: &[Policy],

@@ -14,7 +14,7 @@ use cedar_gate_wanted::Loading;
 use cedar_store_entities::{AbsenceError, Entities, EntitiesError, Entity};
 use std::alloc::{AllocError, Global};
 
-/// The whole store of these entities, none of which stands twice. Fails out of memory.
+/// The whole store of these entities, none of which stands twice. Fails when out of memory.
 pub(crate) fn store_of(alloc: Global, loaded: &[Entity]) -> Result<Entities, AllocError>
     ensures seen { IfOk result (λ s. store_seen s ≡ all_of (map entity_pair loaded.now)) }
     ensures kept { IfOk result (λ s. store_made s ≡ map kept_pair loaded.now) }
@@ -29,7 +29,7 @@ pub(crate) fn store_of(alloc: Global, loaded: &[Entity]) -> Result<Entities, All
 }
 
 /// These entities, none of which stands twice, as some of a store, where each uid that was asked for and has none is recorded as absent.
-/// Fails out of memory.
+/// Fails when out of memory.
 pub(crate) fn known_store_of(
     alloc: Global,
     loaded: &[Entity],
@@ -43,7 +43,7 @@ pub(crate) fn known_store_of(
     Ok(store)
 }
 
-// Records the absence of each uid that was asked for and has no entity. Fails out of memory.
+// Records the absence of each uid that was asked for and has no entity. Fails when out of memory.
 fn record_absences(store: &mut Entities, loading: &Loading) -> Result<(), AllocError>
     ensures recorded { OnOk result (RecordsAbsences (λ u. is_some (rows_in loading.now u)) (store_seen store.old) (store_seen store.new)) }
     ensures kept { store_made store.new ≡ store_made store.old }
@@ -54,7 +54,7 @@ fn record_absences(store: &mut Entities, loading: &Loading) -> Result<(), AllocE
     Ok(())
 }
 
-// Records the absence of the uid, if it has no entity. Fails out of memory.
+// Records the absence of the uid, if it has no entity. Fails when out of memory.
 fn record_absence(store: &mut Entities, uid: &EntityUID) -> Result<(), AllocError>
     ensures recorded { OnOk result (RecordsAbsences (λ u. uid_eq u (uid_of uid.now)) (store_seen store.old) (store_seen store.new)) }
     ensures kept { store_made store.new ≡ store_made store.old }

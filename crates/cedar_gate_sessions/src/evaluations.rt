@@ -18,7 +18,7 @@ use cedar_evaluator_operators::FunctionTable;
 use cedar_store_policies::Policy;
 use std::alloc::{AllocError, Global};
 
-/// What is left of each policy, in their order. Fails only out of memory.
+/// What is left of each policy, in their order. Fails only when out of memory.
 pub fn verdicts<T: FunctionTable>(
     alloc: Global,
     evaluator: &Evaluator<'_, T>,
@@ -33,7 +33,7 @@ pub fn verdicts<T: FunctionTable>(
     Ok(all)
 }
 
-/// What is left of the policy. Fails only out of memory.
+/// What is left of the policy. Fails only when out of memory.
 pub fn verdict<T: FunctionTable>(
     alloc: Global,
     evaluator: &Evaluator<'_, T>,
@@ -45,7 +45,7 @@ pub fn verdict<T: FunctionTable>(
     kind(&outcome)
 }
 
-// The verdict that an outcome is. Fails only out of memory.
+// The verdict that an outcome is. Fails only when out of memory.
 pub(crate) fn kind(outcome: &Result<bool, EvaluationError>) -> Result<Verdict, AllocError>
     ensures { (l : Left) → IsTruthOf l outcome.now → IfOk result (λ v. v ≡ kind_of l) }
 {
@@ -62,7 +62,7 @@ fn kind_of_truth(b: bool) -> Verdict
     if b { Verdict::Satisfied } else { Verdict::Not }
 }
 
-// The verdict on a policy with this error. Fails only out of memory.
+// The verdict on a policy with this error. Fails only when out of memory.
 fn kind_of_error(error: &EvaluationError) -> Result<Verdict, AllocError>
     ensures { (l : Left) → IsTruthOf l (Err error.now) → IfOk result (λ v. v ≡ kind_of l) }
 {

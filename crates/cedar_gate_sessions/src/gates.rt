@@ -32,15 +32,15 @@ use std::rc::RcStr;
 
 /// What a schema is asked by sessions.
 pub trait Schema: DeclaredActions {
-    /// The declared actions as entities, each once. Fails only out of memory.
+    /// The declared actions as entities, each once. Fails only when out of memory.
     fn actions(&self, alloc: Global) -> Result<Vec<Entity>, AllocError>
         ensures { IfOk result (λ es. HasActions (Self.schema self.now) (map entity_pair es.items)) };
 
-    /// Whether the entity conforms to the schema. Fails only out of memory.
+    /// Whether the entity conforms to the schema. Fails only when out of memory.
     fn entity_conforms(&self, alloc: Global, entity: &Entity) -> Result<bool, AllocError>
         ensures { IfOk result (λ b. b ≡ entity_conforms (Self.schema self.now) (entity_uid entity.now) (entity_of entity.now)) };
 
-    /// Whether the request conforms to the schema: all of it is known, and fits its action. Fails only out of memory.
+    /// Whether the request conforms to the schema: all of it is known, and fits its action. Fails only when out of memory.
     fn request_conforms(&self, alloc: Global, request: &Request) -> Result<bool, AllocError>
         ensures { IfOk result (λ b. b ≡ request_conforms (Self.schema self.now) (known_request (request_of request.now))) };
 }
@@ -64,7 +64,7 @@ pub trait GateCalls: Schema {
     fn level(&self) -> u32
         ensures { (x : Setup) → suits self.now x → result ≡ x.level };
 
-    /// The request with what is bound to its names, and whether its context fails to evaluate with that. Fails only out of memory.
+    /// The request with what is bound to its names, and whether its context fails to evaluate with that. Fails only when out of memory.
     fn request_now(
         &self,
         alloc: Global,
@@ -75,7 +75,7 @@ pub trait GateCalls: Schema {
         ensures fails { IfOk result (λ r. (x : Setup) → suits self.now x → r.1 ≡ true → (s : State) → AreValuesOf s (bound_in bound.now) → ContextFails x.functions s (request_of start.now).context) }
         ensures evaluates { IfOk result (λ r. (x : Setup) → suits self.now x → r.1 ≡ false → (s : State) → AreValuesOf s (bound_in bound.now) → ContextFails x.functions s (request_of start.now).context → ⊥) };
 
-    /// What is left of each policy by what is known, in their order. Fails only out of memory.
+    /// What is left of each policy by what is known, in their order. Fails only when out of memory.
     fn verdicts(
         &self,
         alloc: Global,
@@ -85,7 +85,7 @@ pub trait GateCalls: Schema {
     ) -> Result<Vec<Verdict>, AllocError>
         ensures { IfOk result (λ vs. (x : Setup) (s : State) (found : Uid → Found Made) → suits self.now x → IsKnown x s found request store.now bound.now → vs.items ≡ verdicts_of (scope_now x s found) x.limit (accepted self.now)) };
 
-    /// The answer by what is known, where what stays open counts as an error. Fails only out of memory.
+    /// The answer by what is known, where what stays open counts as an error. Fails only when out of memory.
     fn respond(
         &self,
         alloc: Global,

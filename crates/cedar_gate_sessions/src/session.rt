@@ -185,7 +185,7 @@ impl<'g, G: GateCalls> SessionAt<'g, G> {
     }
 
     /// The decision of evaluating the policies in part over what is known by now, if that decides. One that is given is that of every
-    /// completion; one is given where what is known forces it, and once all is bound and loaded. Fails only out of memory.
+    /// completion; one is given where what is known forces it, and once all is bound and loaded. Fails only when out of memory.
     pub fn decision(&self, alloc: Global) -> Result<Option<Decision>, AllocError>
         ensures exact { IfOk result (λ d. (x : Setup) (s : State) → IsAt G.suits x s self.entry.now → option_map decision_of d ≡ decision_in_session (response_of (scope_now x s (store_in self.entry.now)) x.limit (policies_in G.accepted self.entry.now))) }
         ensures in_part { IfOk result (λ d. (c : Course) (s : State) → IsAt G.suits (session_of c) s self.entry.now → policies_in G.accepted self.entry.now ≡ c.submission.policies → DecidesInPart (session_of c) c.submission.policies s (option_map decision_of d)) }
@@ -198,7 +198,7 @@ impl<'g, G: GateCalls> SessionAt<'g, G> {
     }
 
     /// What must and what may determine the decision, by what is known: bounds that are given hold in every completion, they are given where all
-    /// is bound, and are the reasons of the answer where all that is looked up is known too. Fails only out of memory.
+    /// is bound, and are the reasons of the answer where all that is looked up is known too. Fails only when out of memory.
     pub fn bounds(&self, alloc: Global) -> Result<Option<Bounds>, AllocError>
         ensures exact { IfOk result (λ b. (x : Setup) (s : State) → IsAt G.suits x s self.entry.now → AreDistinct (ids (policies_in G.accepted self.entry.now)) → option_map bounds_of b ≡ bounds_in_session (policies_in G.accepted self.entry.now) (response_of (scope_now x s (store_in self.entry.now)) x.limit (policies_in G.accepted self.entry.now))) }
         ensures kept { IfOk result (λ b. (c : Course) (s : State) → IsAt G.suits (session_of c) s self.entry.now → policies_in G.accepted self.entry.now ≡ c.submission.policies → IsProper c → MakeFairly c.functions → KeepsBounds c s (option_map bounds_of b)) }

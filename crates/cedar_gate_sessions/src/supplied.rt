@@ -14,7 +14,7 @@ use cedar_gate_wanted::Loading;
 use cedar_store_entities::Entity;
 use std::alloc::{AllocError, Global};
 
-/// Whether each entity is under its uid and conforms. Fails only out of memory.
+/// Whether each entity is under its uid and conforms. Fails only when out of memory.
 pub(crate) fn are_right<S: Schema>(
     alloc: Global,
     schema: &S,
@@ -49,7 +49,7 @@ fn is_right<S: Schema>(
     }
 }
 
-/// What each uid mentions, and the entities. Fails only out of memory.
+/// What each uid mentions, and the entities. Fails only when out of memory.
 pub(crate) fn parted(
     alloc: Global,
     supplied: Vec<(EntityUID, Option<Entity>)>,

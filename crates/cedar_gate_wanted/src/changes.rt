@@ -11,8 +11,8 @@ use crate::settle::{add_roots, follow_loaded};
 use cedar_expr_names::EntityUID;
 use std::alloc::{AllocError, Global};
 
-/// Adds roots, and lowers by what is loaded all that they bring nearer. Gives the writes, by which the change can be undone. Errors: for
-/// want of memory the distances are as before.
+/// Adds roots, and lowers by what is loaded all that they bring nearer. Gives the writes, by which the change can be undone. Errors: when
+/// out of memory the distances are as before.
 pub fn add(
     near: &mut Near,
     loaded: &Loaded,
@@ -35,7 +35,7 @@ pub fn add(
 }
 
 /// Lowers by what these uids mention, which are loaded now, all that they bring nearer. Gives the writes, by which the change can be
-/// undone. Errors: for want of memory the distances are as before.
+/// undone. Errors: when out of memory the distances are as before.
 pub fn supply(
     near: &mut Near,
     loaded: &Loaded,

@@ -62,7 +62,7 @@ impl Loading {
         self.rows.keys()
     }
 
-    /// Adds roots. Fails only out of memory, and then all is as before.
+    /// Adds roots. Fails only when out of memory, and then all is as before.
     pub fn add_roots<S: DeclaredActions>(
         &mut self,
         alloc: Global,

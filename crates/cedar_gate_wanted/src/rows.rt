@@ -21,7 +21,7 @@ fn put_row(rows: &mut Loaded, uid: EntityUID, row: Vec<EntityUID>) -> Result<(),
     Ok(())
 }
 
-/// Puts these rows in. Fails only out of memory; some may be in then.
+/// Puts these rows in. Fails only when out of memory; some may be in then.
 pub(crate) fn put_rows(
     rows: &mut Loaded,
     more: Vec<(EntityUID, Vec<EntityUID>)>,

@@ -17,7 +17,7 @@ use Rattle.cedar_schema_assembly.specs.Seen.{WrittenType, WrittenAction, names_w
 use Rattle.cedar_schema_assembly.specs.declared.err.AssemblyError.{AssemblyError}
 use Rattle.cedar_schema_assembly.specs.declared.err.AssemblyError.TheVariants.{OutOfMemory, DuplicateEntityType, DuplicateAction, CycleInActionHierarchy, ContextNotRecord, UnknownExtensionType, ReservedName}
 
--- The error tells that one of these names is reserved. Want of memory tells nothing, here and below.
+-- The error tells that one of these names is reserved. Out of memory tells nothing, here and below.
 abbrev pub TellsReserved : List Name → AssemblyError → Type 0
 TellsReserved ns OutOfMemory = Unit {0}
 TellsReserved ns (DuplicateEntityType n) = ⊥

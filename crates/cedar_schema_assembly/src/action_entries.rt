@@ -35,7 +35,7 @@ use cedar_schema_types::{OpenTag, Type};
 use std::alloc::{AllocError, Global};
 use std::collections::BTreeSet;
 
-// The uid of a parent. Refuses a reserved name of its type, and answers want of memory.
+// The uid of a parent. Refuses a reserved name of its type, and fails when out of memory.
 fn parent_uid(parent: &ActionEntityUID<InternalName>) -> Result<EntityUID, AssemblyError>
     ensures made { IfOk result (λ u. uid_of u ≡ as_uid (parent_form name_of parent.now)) }
     ensures refused { IfErr result (TellsReserved (name_of parent.now.ty ∷ [])) }
@@ -80,7 +80,7 @@ fn with_parents(
     Ok(nodes)
 }
 
-// What descends from each. Refuses one that is declared twice and a reserved name of a parent's type, and answers want of memory.
+// What descends from each. Refuses one that is declared twice and a reserved name of a parent's type, and fails when out of memory.
 fn actions_below(
     alloc: Global,
     declared: &[(EntityUID, ActionFragment<InternalName, EntityType>)],
@@ -105,7 +105,7 @@ fn actions_below(
     }
 }
 
-// The context as a closed record, if it is one. Answers want of memory.
+// The context as a closed record, if it is one. Fails only when out of memory.
 fn as_record(ty: Type) -> Result<Option<Type>, AllocError>
     ensures { IfOk result (λ r. AsRecord (type_of ty) (option_map type_of r)) }
 {
@@ -122,7 +122,7 @@ fn as_record(ty: Type) -> Result<Option<Type>, AllocError>
 }
 
 // The type of the context of the action of this uid. Refuses one that is no record, an extension type that isn't known and a
-// reserved name, and answers want of memory.
+// reserved name, and fails when out of memory.
 fn context_type(
     alloc: Global,
     uid: &EntityUID,
@@ -204,7 +204,7 @@ fn assembled(
 /// The actions that resolved declarations tell: each with what it applies to, its context as a type of a schema, and
 /// the actions that descend from it. Refuses one that is declared twice, one that descends from itself, a context that is no record,
 /// an extension type that isn't known, and a reserved name of a parent's type, of an entity type or of an extension type in a
-/// context, and answers want of memory.
+/// context, and fails when out of memory.
 pub fn actions(
     alloc: Global,
     declared: &[(EntityUID, ActionFragment<InternalName, EntityType>)],

@@ -11,7 +11,7 @@ use cedar_expr_names::{EntityType, InternalName, Name};
 use std::alloc::Global;
 use std::collections::BTreeSet;
 
-/// The entity type of this name. Refuses a reserved one, and answers want of memory.
+/// The entity type of this name. Refuses a reserved one, and fails when out of memory.
 pub fn entity_type_of(name: &InternalName) -> Result<EntityType, AssemblyError>
     ensures made { IfOk result (λ t. type_name_of t ≡ name_of name.now) }
     ensures refused { IfErr result (TellsReserved (name_of name.now ∷ [])) }
@@ -20,7 +20,7 @@ pub fn entity_type_of(name: &InternalName) -> Result<EntityType, AssemblyError>
     Ok(EntityType::from_name(name))
 }
 
-// The entity types of these names, in their order. Refuses a reserved one, and answers want of memory.
+// The entity types of these names, in their order. Refuses a reserved one, and fails when out of memory.
 fn entity_types_of(
     alloc: Global,
     names: &BTreeSet<InternalName>,

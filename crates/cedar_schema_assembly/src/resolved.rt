@@ -33,7 +33,7 @@ fn of_type(error: ResolveError) -> AssemblyError
     }
 }
 
-/// The type that a written one tells. Refuses an extension type that isn't known and a reserved name, and answers want of memory.
+/// The type that a written one tells. Refuses an extension type that isn't known and a reserved name, and fails when out of memory.
 pub fn told_type(
     alloc: Global,
     ty: &json_schema::Type<InternalName>,

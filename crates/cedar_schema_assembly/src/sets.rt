@@ -67,7 +67,7 @@ impl Part for Name {
     }
 }
 
-/// These parts as a set. Answers want of memory.
+/// These parts as a set. Fails only when out of memory.
 pub fn set_of<P: Part>(alloc: Global, parts: &[P]) -> Result<BTreeSet<P>, AllocError>
     ensures { IfOk result (λ s. IsSetOf (map P.seen parts.now) (map P.seen s.keys)) }
 {
@@ -85,7 +85,7 @@ pub fn has<N: Node>(set: &BTreeSet<N>, node: &N) -> bool
     set.contains(node)
 }
 
-/// The first node that stands twice, in its second place, if there is one. Answers want of memory.
+/// The first node that stands twice, in its second place, if there is one. Fails only when out of memory.
 pub fn first_repeated<'a, N: Node>(
     alloc: Global,
     nodes: &'a [(N, Vec<N>)],
@@ -101,7 +101,7 @@ pub fn first_repeated<'a, N: Node>(
     Ok(None)
 }
 
-/// What descends from each of these nodes, none of which stands twice. Answers want of memory.
+/// What descends from each of these nodes, none of which stands twice. Fails only when out of memory.
 pub fn below<N: Node>(alloc: Global, nodes: &[(N, Vec<N>)]) -> Result<Vec<BTreeSet<N>>, AllocError>
     requires { StandOnce (names_in N.seen nodes.now) }
     ensures { IfOk result (λ ss. AreDescendants (seen_nodes N.seen nodes.now) (sets_seen N.seen ss.items)) }
@@ -113,7 +113,7 @@ pub fn below<N: Node>(alloc: Global, nodes: &[(N, Vec<N>)]) -> Result<Vec<BTreeS
     }
 }
 
-/// These names again. Answers want of memory.
+/// These names again. Fails only when out of memory.
 pub fn copies<N: Node>(alloc: Global, names: &[N]) -> Result<Vec<N>, AllocError>
     ensures { IfOk result (λ ns. map N.seen ns.items ≡ map N.seen names.now) }
 {

@@ -34,7 +34,7 @@ use std::alloc::{AllocError, Global};
 use std::collections::BTreeSet;
 use std::rc::RcStr;
 
-// The names of the parents that are written. Answers want of memory.
+// The names of the parents that are written. Fails only when out of memory.
 fn parents_of(
     alloc: Global,
     declared: &EntityTypeFragment<InternalName>,
@@ -52,7 +52,7 @@ fn parents_of(
     }
 }
 
-// Each name with those of its parents. Answers want of memory.
+// Each name with those of its parents. Fails only when out of memory.
 fn with_parents(
     alloc: Global,
     declared: &[(InternalName, EntityTypeFragment<InternalName>)],
@@ -67,7 +67,7 @@ fn with_parents(
     Ok(nodes)
 }
 
-// What descends from each. Refuses one that is declared twice, and answers want of memory.
+// What descends from each. Refuses one that is declared twice, and fails when out of memory.
 fn types_below(
     alloc: Global,
     declared: &[(InternalName, EntityTypeFragment<InternalName>)],
@@ -176,7 +176,7 @@ fn assembled(
 
 /// The entity types that resolved declarations tell: each with its attributes and tags as types of a schema, or its
 /// members, and with the entity types that descend from it. Refuses one that is declared twice, an extension type that isn't known,
-/// and a reserved name of an entity type or an extension type, and answers want of memory.
+/// and a reserved name of an entity type or an extension type, and fails when out of memory.
 pub fn entity_types(
     alloc: Global,
     declared: &[(InternalName, EntityTypeFragment<InternalName>)],

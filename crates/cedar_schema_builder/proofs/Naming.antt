@@ -55,7 +55,7 @@ module _ (fs : List (ValidatorSchemaFragment ConditionalName ConditionalName)) w
     no_action_type = λ x d w p. true≢false (sym ((typed fs d w x).1 p) ∙ k);
   }
 
-  -- want of memory names nothing
+  -- out of memory names nothing
   pub memory_named : NamesFaultIn fs schema.OutOfMemory
   memory_named = record { each = λ x d w. tt }
 

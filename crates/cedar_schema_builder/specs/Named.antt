@@ -29,7 +29,7 @@ IsActionShadowing d u = Contains (action_uids d) u × (not (is_unqualified u.kin
 abbrev pub HasOtherContext : Declarations → Uid → Type 0
 HasOtherContext d u = (a : ActionDeclaration) × Contains d.actions a × (action_uid a ≡ u) × (becomes_record d a ≡ false)
 
--- What the error names is at fault in the declarations. Want of memory names nothing.
+-- What the error names is at fault in the declarations. Out of memory names nothing.
 abbrev pub NamesFault : List Name → Declarations → SchemaError → Type 0
 NamesFault x d OutOfMemory = Unit {0}
 NamesFault x d (DuplicateEntityType n) = StandsTwice (entity_names d) (name_of n)

@@ -117,7 +117,7 @@ pub record AreBuiltOfFormed (x : List Name) (fs : Fragments) (ts : List KeptType
 abbrev pub OfResolved : Defined → Fragments → (CommonForms → EntityForms → ActionForms → Type 0) → Type 0
 OfResolved s fs holds = (gs : List (List AsResolved)) × (all_resolved s fs ≡ Ok gs) × holds (commons_of (all_of gs)) (entities_of (all_of gs)) (actions_of (all_of gs))
 
--- What the error names is at fault in the fragments, by these sets. Want of memory names nothing.
+-- What the error names is at fault in the fragments, by these sets. Out of memory names nothing.
 abbrev pub IsFaultBy : Defined → List Name → Fragments → SchemaError → Type 0
 IsFaultBy s x fs OutOfMemory = Unit {0}
 IsFaultBy s x fs (DuplicateEntityType n) = StandsTwice (entities_named fs) (name_of n)

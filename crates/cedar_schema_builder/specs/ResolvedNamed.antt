@@ -20,7 +20,7 @@ use Rattle.cedar_schema_assembly.specs.Told.{schema_told}
 use Rattle.cedar_schema_builder.specs.ResolvedLaws.{AreTold, StandsIn}
 use Rattle.cedar_schema_builder.specs.Writing.{CommonForms, EntityForms, ActionForms, WritesAll, names_of_entities, uids_of_actions, names_declared, names_referred}
 
--- What the error names is at fault in the declarations, where these extension types are known. Want of memory names nothing.
+-- What the error names is at fault in the declarations, where these extension types are known. Out of memory names nothing.
 abbrev pub NamesThere : List Name → Declarations → ResolveError → Type 0
 NamesThere x d OutOfMemory = Unit {0}
 NamesThere x d (UnknownExtensionType n) = Contains (extensions d) (plain_name_of n) × (Contains x (plain_name_of n) → ⊥)

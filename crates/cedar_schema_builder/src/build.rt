@@ -38,7 +38,7 @@ pub struct SchemaParts {
     pub actions: Vec<ValidatorActionId>,
 }
 
-// Refuses a reserved name, and an entity type under the last name of the types of actions. Answers want of memory.
+// Refuses a reserved name, and an entity type under the last name of the types of actions. Fails only when out of memory.
 fn check_names(
     fragments: &[ValidatorSchemaFragment<ConditionalName, ConditionalName>],
 ) -> Result<(), SchemaError>
@@ -60,7 +60,7 @@ fn check_names(
     }
 }
 
-// All that the fragments declare, with each name resolved. Refuses what shadows and what means nothing, and answers want of memory.
+// All that the fragments declare, with each name resolved. Refuses what shadows and what means nothing, and fails when out of memory.
 fn gathered(
     alloc: Global,
     fragments: Vec<ValidatorSchemaFragment<ConditionalName, ConditionalName>>,
@@ -81,7 +81,7 @@ fn gathered(
     Ok(gathered)
 }
 
-// The entity types and the actions that these tell. Refuses what can't be told, and answers want of memory.
+// The entity types and the actions that these tell. Refuses what can't be told, and fails when out of memory.
 fn assembled(
     alloc: Global,
     gathered: &GatheredDefs,
@@ -129,7 +129,7 @@ fn named_parts(
 
 /// The entity types and the actions of the schema that the declarations of these fragments tell, where these are well-formed and
 /// the extension types are the ones that are known. Refuses them else, with a fault that is there and under the name of what is at
-/// fault, and answers want of memory. Of fragments that no declarations write it builds what their names mean by what is declared in
+/// fault, and fails when out of memory. Of fragments that no declarations write it builds what their names mean by what is declared in
 /// them, under the same conditions, and refuses them else with what is at fault in them.
 pub fn schema_parts(
     alloc: Global,

@@ -13,8 +13,8 @@ pub trait DefsOfFragments: Sized {
     /// What is in the sets.
     ghost defined: { Self → Defined };
 
-    /// What these fragments declare: the names of all common types and entity types, and the uids of all actions. Answers want of
-    /// memory.
+    /// What these fragments declare: the names of all common types and entity types, and the uids of all actions. Fails only when
+    /// out of memory.
     fn new<N, A>(
         alloc: Global,
         fragments: &[ValidatorSchemaFragment<N, A>],
@@ -22,8 +22,8 @@ pub trait DefsOfFragments: Sized {
         ensures marked { IfOk result (λ d. defined d ≡ all_with with_fragment fragments.now nothing_defined) }
         ensures declared { IfOk result (λ d. HasAll fragments.now (defined d)) };
 
-    /// What this fragment declares: the names of all its common types and entity types, and the uids of its actions. Answers want of
-    /// memory.
+    /// What this fragment declares: the names of all its common types and entity types, and the uids of its actions. Fails only when
+    /// out of memory.
     fn single_fragment<N, A>(
         alloc: Global,
         fragment: &ValidatorSchemaFragment<N, A>,

@@ -39,7 +39,7 @@ impl GatheredDefs {
     }
 }
 
-// These with those after them. Answers want of memory.
+// These with those after them. Fails only when out of memory.
 fn with_all<T: Drop>(before: Vec<T>, after: Vec<T>) -> Result<Vec<T>, AllocError>
     ensures { IfOk result (λ r. r.items ≡ before.items ++ after.items) }
 {
@@ -50,7 +50,7 @@ fn with_all<T: Drop>(before: Vec<T>, after: Vec<T>) -> Result<Vec<T>, AllocError
     Ok(all)
 }
 
-// All that was gathered, with what this namespace declares. Answers want of memory.
+// All that was gathered, with what this namespace declares. Fails only when out of memory.
 fn with_namespace(
     gathered: GatheredDefs,
     namespace: ValidatorNamespaceDef<InternalName, EntityType>,
@@ -69,7 +69,7 @@ fn with_namespace(
     })
 }
 
-// The namespaces of these fragments, one after the other. Answers want of memory.
+// The namespaces of these fragments, one after the other. Fails only when out of memory.
 fn all_namespaces(
     alloc: Global,
     fragments: Vec<ValidatorSchemaFragment<InternalName, EntityType>>,
@@ -83,7 +83,7 @@ fn all_namespaces(
     Ok(all)
 }
 
-// All that these namespaces declare. Answers want of memory.
+// All that these namespaces declare. Fails only when out of memory.
 fn gather_namespaces(
     alloc: Global,
     namespaces: Vec<ValidatorNamespaceDef<InternalName, EntityType>>,
@@ -99,7 +99,7 @@ fn gather_namespaces(
     Ok(gathered)
 }
 
-/// All that these fragments declare, one namespace after the other. Answers want of memory.
+/// All that these fragments declare, one namespace after the other. Fails only when out of memory.
 pub fn gather(
     alloc: Global,
     fragments: Vec<ValidatorSchemaFragment<InternalName, EntityType>>,

@@ -11,7 +11,7 @@ use cedar_schema_assembly::set_of;
 use std::alloc::{AllocError, Global};
 use std::collections::BTreeSet;
 
-/// The extension types that the functions of the table give, each once. Answers want of memory.
+/// The extension types that the functions of the table give, each once. Fails only when out of memory.
 pub fn extension_types(
     alloc: Global,
     extensions: &Extensions<'_>,

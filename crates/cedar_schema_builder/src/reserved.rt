@@ -352,7 +352,7 @@ pub fn first_reserved_name(
     first_among(fragments, &Fragments)
 }
 
-/// Checks that these fragments write no reserved name. Refuses the first that is one, and answers want of memory.
+/// Checks that these fragments write no reserved name. Refuses the first that is one, and fails when out of memory.
 pub fn check_reserved(
     fragments: &[ValidatorSchemaFragment<ConditionalName, ConditionalName>],
 ) -> Result<(), FragmentError>

@@ -48,8 +48,8 @@ impl<'a> Resolve for Fragments<'a> {
 }
 
 /// The fragments with each name replaced by that of the type that it means, and each parent of an action by the action that it
-/// means. Refuses the first that means none, fragment by fragment, or a principal or resource type that is reserved, and answers
-/// want of memory.
+/// means. Refuses the first that means none, fragment by fragment, or a principal or resource type that is reserved, and fails
+/// when out of memory.
 pub fn resolve_all(
     alloc: Global,
     fragments: Vec<ValidatorSchemaFragment<ConditionalName, ConditionalName>>,

@@ -22,7 +22,7 @@ pub(crate) fn take_row<K: Ord + Drop>(
     }
 }
 
-// Puts one behind those that stand under this key. Answers want of memory.
+// Puts one behind those that stand under this key. Fails only when out of memory.
 pub(crate) fn add_above<K: Ord + Drop>(
     above: &mut BTreeMap<K, Vec<K>>,
     alloc: Global,

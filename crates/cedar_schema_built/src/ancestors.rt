@@ -13,7 +13,7 @@ use cedar_schema_entries::laws::entity_types_are_in_order;
 use std::alloc::{AllocError, Global};
 use std::collections::BTreeMap;
 
-// The entity types that each descends from, under its name. Answers want of memory.
+// The entity types that each descends from, under its name. Fails only when out of memory.
 pub(crate) fn types_above(
     alloc: Global,
     entity_types: &BTreeMap<EntityType, ValidatorEntityType>,
@@ -27,7 +27,7 @@ pub(crate) fn types_above(
     Ok(above)
 }
 
-// Puts the entity type under each that descends from it. Answers want of memory.
+// Puts the entity type under each that descends from it. Fails only when out of memory.
 fn add_below(
     above: &mut BTreeMap<EntityType, Vec<EntityType>>,
     alloc: Global,

@@ -25,7 +25,7 @@ impl ValidatorSchema {
     /// The schema of the declarations that these fragments write, where these are well-formed and the extension types that they name
     /// are given by the table. It lists the common types that are declared and the namespaces in which anything is, in the order of
     /// their names, each once. Refuses the fragments else, with a fault that is there and under the name of what is at fault, and
-    /// answers want of memory. Of fragments that no declarations write it builds what their names mean by what is declared in them,
+    /// fails when out of memory. Of fragments that no declarations write it builds what their names mean by what is declared in them,
     /// under the same conditions, and refuses them else with what is at fault in them.
     pub fn from_schema_fragments(
         alloc: Global,

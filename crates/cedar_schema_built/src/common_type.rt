@@ -16,7 +16,7 @@ pub struct LocatedCommonType {
 }
 
 impl LocatedCommonType {
-    /// The common type of this name that stands for this type. The parts of the name are shared. Answers want of memory.
+    /// The common type of this name that stands for this type. The parts of the name are shared. Fails only when out of memory.
     pub fn new(name: &InternalName, ty: LocatedType) -> Result<LocatedCommonType, AllocError>
         ensures { IfOk result (λ c. common_listed c ≡ record { name = name_of name.now; name_place = name_loc name.now; type_place = type_place ty }) }
     {

@@ -23,7 +23,7 @@ use std::collections::BTreeMap;
 
 impl ValidatorSchema {
     /// The declared actions as entities, in the order of their uids: each with all actions that it descends from, none of them as a
-    /// parent, and without attributes and tags. Answers want of memory.
+    /// parent, and without attributes and tags. Fails only when out of memory.
     pub fn action_entities(&self, alloc: Global) -> Result<Vec<Entity>, AllocError>
         ensures indirect { IfOk result (λ es. list_all (λ e. are_indirect (kin_seen e)) es.items ≡ true) }
         ensures entities { IfOk result (λ es. map entity_pair es.items ≡ kept_action_entities (schema_kept self.now)) }
@@ -33,7 +33,7 @@ impl ValidatorSchema {
     }
 }
 
-// The actions that each descends from, under its uid. Answers want of memory.
+// The actions that each descends from, under its uid. Fails only when out of memory.
 fn above(
     alloc: Global,
     schema: &ValidatorSchema,
@@ -47,7 +47,7 @@ fn above(
     Ok(above)
 }
 
-// Puts the action under each that descends from it. Answers want of memory.
+// Puts the action under each that descends from it. Fails only when out of memory.
 fn add_below(
     above: &mut BTreeMap<EntityUID, Vec<EntityUID>>,
     alloc: Global,
@@ -64,7 +64,7 @@ fn add_below(
     Ok(())
 }
 
-// The action of this uid as an entity, with no parents: takes its row out. Answers want of memory.
+// The action of this uid as an entity, with no parents: takes its row out. Fails only when out of memory.
 fn as_entity(
     alloc: Global,
     uid: &EntityUID,
@@ -86,7 +86,7 @@ fn as_entity(
     )
 }
 
-// The actions as entities, with no parents. Answers want of memory.
+// The actions as entities, with no parents. Fails only when out of memory.
 fn as_entities(
     alloc: Global,
     schema: &ValidatorSchema,

@@ -14,8 +14,8 @@ use cedar_store_parts::RequestType;
 use std::alloc::{AllocError, Global};
 
 impl ValidatorSchema {
-    /// The environments: each action with each of its principal and resource types, in the order in which the schema keeps them. Answers
-    /// want of memory.
+    /// The environments: each action with each of its principal and resource types, in the order in which the schema keeps them. Fails only
+    /// when out of memory.
     pub fn unlinked_request_envs(&self, alloc: Global) -> Result<Vec<RequestType>, AllocError>
         ensures { IfOk result (λ rs. map request_kind rs.items ≡ kept_environments (schema_kept self.now)) }
     {
@@ -27,7 +27,7 @@ impl ValidatorSchema {
     }
 }
 
-// Puts the environments of the action behind those that were found. Answers want of memory.
+// Puts the environments of the action behind those that were found. Fails only when out of memory.
 fn add_environments(
     found: &mut Vec<RequestType>,
     action: &ValidatorActionId,

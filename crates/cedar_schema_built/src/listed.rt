@@ -14,7 +14,7 @@ use std::vec::IntoIter;
 
 impl ValidatorSchema {
     /// Goes over the types of principals of each action in turn; a type that several have comes once for each. The room is made at
-    /// the start. Answers want of memory.
+    /// the start. Fails only when out of memory.
     pub fn principals(&self, alloc: Global) -> Result<IntoIter<&EntityType>, AllocError>
         ensures { IfOk result (λ ts. names_of_types (into_iter_items ts) ≡ kept_principals (schema_kept self.entry.now)) }
     {
@@ -26,7 +26,7 @@ impl ValidatorSchema {
     }
 
     /// Goes over the types of resources of each action in turn; a type that several have comes once for each. The room is made at
-    /// the start. Answers want of memory.
+    /// the start. Fails only when out of memory.
     pub fn resources(&self, alloc: Global) -> Result<IntoIter<&EntityType>, AllocError>
         ensures { IfOk result (λ ts. names_of_types (into_iter_items ts) ≡ kept_resources (schema_kept self.entry.now)) }
     {
@@ -38,7 +38,7 @@ impl ValidatorSchema {
     }
 }
 
-// Puts these types behind those that were found. Answers want of memory.
+// Puts these types behind those that were found. Fails only when out of memory.
 fn add_types<'a>(
     found: &mut Vec<&'a EntityType>,
     types: Iter<'a, EntityType>,

@@ -31,7 +31,7 @@ impl SchemaNames {
         }
     }
 
-    // Those that these fragments declare. Answers want of memory.
+    // Those that these fragments declare. Fails only when out of memory.
     pub(crate) fn of_fragments<N, A>(
         alloc: Global,
         fragments: &[ValidatorSchemaFragment<N, A>],
@@ -49,7 +49,7 @@ impl SchemaNames {
     }
 }
 
-// The common types by their names, of a repeated name the last. Answers want of memory.
+// The common types by their names, of a repeated name the last. Fails only when out of memory.
 fn common_types_by_name(
     alloc: Global,
     common_types: Vec<LocatedCommonType>,
@@ -64,7 +64,7 @@ fn common_types_by_name(
     Ok(by_name)
 }
 
-// The namespaces by their names, of a repeated name the last. Answers want of memory.
+// The namespaces by their names, of a repeated name the last. Fails only when out of memory.
 fn namespaces_by_name(
     alloc: Global,
     namespaces: Vec<LocatedNamespace>,

@@ -16,7 +16,7 @@ pub struct LocatedNamespace {
 }
 
 impl LocatedNamespace {
-    /// The namespace of this name that is defined at this place. The parts of the name are shared. Answers want of memory.
+    /// The namespace of this name that is defined at this place. The parts of the name are shared. Fails only when out of memory.
     pub fn new(name: &InternalName, def_loc: Option<Loc>) -> Result<LocatedNamespace, AllocError>
         ensures { IfOk result (λ n. space_listed n ≡ record { name = name_of name.now; name_place = name_loc name.now; definition_place = def_loc }) }
     {

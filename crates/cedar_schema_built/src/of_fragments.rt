@@ -10,7 +10,7 @@ use cedar_schema_decl::CommonTypeDefs;
 use cedar_schema_fragments::{ValidatorNamespaceDef, ValidatorSchemaFragment};
 use std::alloc::{AllocError, Global};
 
-// Puts these common types behind those that were found. Answers want of memory.
+// Puts these common types behind those that were found. Fails only when out of memory.
 fn add_commons<N>(
     found: &mut Vec<LocatedCommonType>,
     defs: &CommonTypeDefs<N>,
@@ -37,7 +37,7 @@ fn add_commons_of<N, A>(
 }
 
 /// The common types that these fragments declare, each as often as one declares it, in order, with the places of their names and of
-/// their types. Answers want of memory.
+/// their types. Fails only when out of memory.
 pub fn located_common_types<N, A>(
     alloc: Global,
     fragments: &[ValidatorSchemaFragment<N, A>],
@@ -60,7 +60,7 @@ fn declares_any<N, A>(namespace: &ValidatorNamespaceDef<N, A>) -> bool
         && namespace.actions.actions.is_empty())
 }
 
-// Puts a namespace behind those that were found, if it has a name and declares anything. Answers want of memory.
+// Puts a namespace behind those that were found, if it has a name and declares anything. Fails only when out of memory.
 fn add_namespace<N, A>(
     found: &mut Vec<LocatedNamespace>,
     namespace: &ValidatorNamespaceDef<N, A>,
@@ -93,7 +93,7 @@ fn add_namespaces_of<N, A>(
 }
 
 /// The namespaces in which these fragments declare anything, each as often as a fragment has it, in order, with the places of their
-/// names and of their definitions. The empty namespace, which has no name, is none of them. Answers want of memory.
+/// names and of their definitions. The empty namespace, which has no name, is none of them. Fails only when out of memory.
 pub fn located_namespaces<N, A>(
     alloc: Global,
     fragments: &[ValidatorSchemaFragment<N, A>],

@@ -45,7 +45,7 @@ impl ValidatorSchema {
     ghost use Rattle.cedar_schema_built.specs.Views.{schema_kept};
 
     /// The schema of these entity types and actions. Of a repeated name or uid the last stands. It lists neither common types nor
-    /// namespaces. Answers want of memory.
+    /// namespaces. Fails only when out of memory.
     pub fn new(
         alloc: Global,
         entity_types: Vec<ValidatorEntityType>,
@@ -98,7 +98,7 @@ impl ValidatorSchema {
     }
 }
 
-// The entity types by their names, of a repeated name the last. Answers want of memory.
+// The entity types by their names, of a repeated name the last. Fails only when out of memory.
 fn types_by_name(
     alloc: Global,
     entity_types: Vec<ValidatorEntityType>,
@@ -114,7 +114,7 @@ fn types_by_name(
     Ok(by_name)
 }
 
-// The actions by their uids, of a repeated uid the last. Answers want of memory.
+// The actions by their uids, of a repeated uid the last. Fails only when out of memory.
 fn actions_by_uid(
     alloc: Global,
     action_ids: Vec<ValidatorActionId>,

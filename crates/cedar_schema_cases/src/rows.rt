@@ -507,7 +507,7 @@ fn exhausted(_alloc: Global, _args: &[Value<ExtValue>]) -> Result<ExtensionOutpu
 
 // What fragments declare, the schemas that are built of them, with an extension type that a function of the table gives, what is read
 // from a built schema, and what is wrong with one.
-/// The first row that says something else, with what it says; nothing where all hold. Fails for want of memory.
+/// The first row that says something else, with what it says; nothing where all hold. Fails when out of memory.
 pub fn wrong_row(alloc: Global) -> Result<String, AllocError> {
     let func: Func = Box::new(
         alloc,

@@ -7,7 +7,7 @@ use Rattle.cedar_schema_decl.specs.Conditional.{Conditional, conditional_of}
 use Rattle.cedar_schema_decl.specs.declared.err.TypeNotDefinedError.{TypeNotDefinedError}
 use Rattle.cedar_schema_decl.specs.declared.err.TypeNotDefinedError.TheVariants.{OutOfMemory, Undefined}
 
--- the name that stands for nothing. Want of memory tells none.
+-- the name that stands for nothing. Out of memory tells none.
 abbrev pub undefined : TypeNotDefinedError → Option Conditional
 undefined OutOfMemory = None
 undefined (Undefined c) = Some (conditional_of c)

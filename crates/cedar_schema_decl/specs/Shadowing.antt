@@ -32,7 +32,7 @@ pub data Shadowing : Type 0 where
 abbrev pub first_shadowing : Defined → Option Shadowing
 first_shadowing s = option_or (option_map shadowing_type (find (type_shadows s) s.commons)) (option_or (option_map shadowing_type (find (type_shadows s) s.entities)) (option_map shadowing_action (find (action_shadows s) s.actions)))
 
--- The error tells what shadows. Want of memory tells nothing.
+-- The error tells what shadows. Out of memory tells nothing.
 abbrev pub TellsShadowing : Option Shadowing → ShadowingError → Type 0
 TellsShadowing o OutOfMemory = Unit {0}
 TellsShadowing o (TypeShadowing n) = o ≡ Some (shadowing_type (name_of n))

@@ -68,7 +68,7 @@ impl AllDefs {
         self.action_defs.contains(uid)
     }
 
-    /// Takes an entity type of this name as declared. Answers want of memory.
+    /// Takes an entity type of this name as declared. Fails only when out of memory.
     pub fn mark_as_defined_as_entity_type(&mut self, name: InternalName) -> Result<(), AllocError>
         ensures marked { OnOk result (defined_of self.new ≡ with_entity (name_of name) (defined_of self.old)) }
         ensures unchanged { OnErr result (defined_of self.new ≡ defined_of self.old) }
@@ -77,7 +77,7 @@ impl AllDefs {
         Ok(())
     }
 
-    /// Takes a common type of this name as declared. Answers want of memory.
+    /// Takes a common type of this name as declared. Fails only when out of memory.
     pub fn mark_as_defined_as_common_type(&mut self, name: InternalName) -> Result<(), AllocError>
         ensures marked { OnOk result (defined_of self.new ≡ with_common (name_of name) (defined_of self.old)) }
         ensures unchanged { OnErr result (defined_of self.new ≡ defined_of self.old) }
@@ -86,7 +86,7 @@ impl AllDefs {
         Ok(())
     }
 
-    /// Takes this action as declared. Answers want of memory.
+    /// Takes this action as declared. Fails only when out of memory.
     pub fn mark_as_defined_as_action(&mut self, uid: EntityUID) -> Result<(), AllocError>
         ensures marked { OnOk result (defined_of self.new ≡ with_action (uid_of uid) (defined_of self.old)) }
         ensures unchanged { OnErr result (defined_of self.new ≡ defined_of self.old) }
@@ -96,8 +96,8 @@ impl AllDefs {
     }
 
     /// Checks that nothing that is declared in a namespace shadows what is declared in the empty one. Refuses the first type that
-    /// has the last name of a type of the empty namespace, and the first action that has the id of an action of it. Answers want
-    /// of memory.
+    /// has the last name of a type of the empty namespace, and the first action that has the id of an action of it. Fails only when
+    /// out of memory.
     pub fn rfc_70_shadowing_checks(&self, alloc: Global) -> Result<(), ShadowingError>
         ensures passed { IfOk result (λ _. first_shadowing (defined_of self.now) ≡ None) }
         ensures refused { IfErr result (TellsShadowing (first_shadowing (defined_of self.now))) }
@@ -212,7 +212,7 @@ impl AllDefs {
 }
 
 /// The name of the type that a name means: the first of those that it may stand for that is declared. Refuses a name that means
-/// none, and answers want of memory.
+/// none, and fails when out of memory.
 pub fn resolve(
     name: &ConditionalName,
     all_defs: &AllDefs,

@@ -71,7 +71,7 @@ fn requalify_common<R: Requalify>(
 }
 
 /// The common types with other names in the place of those that they refer to. Refuses the first name in the place of which there
-/// is none, and answers want of memory.
+/// is none, and fails when out of memory.
 pub fn requalify_commons<R: Requalify>(
     alloc: Global,
     commons: CommonTypeDefs<R::From>,
@@ -106,7 +106,7 @@ fn requalify_optional<R: Requalify>(
 }
 
 /// The entity type with other names in the place of those that it refers to. Refuses the first name in the place of which there
-/// is none, parents before attributes and these before tags, and answers want of memory.
+/// is none, parents before attributes and these before tags, and fails when out of memory.
 pub fn requalify_entity<R: Requalify>(
     alloc: Global,
     entity: EntityTypeFragment<R::From>,
@@ -139,7 +139,7 @@ pub fn requalify_entity<R: Requalify>(
 }
 
 /// The entity types with other names in the place of those that they refer to. Refuses the first name in the place of which there
-/// is none, and answers want of memory.
+/// is none, and fails when out of memory.
 pub fn requalify_entities<R: Requalify>(
     alloc: Global,
     entities: EntityTypesDef<R::From>,
@@ -168,7 +168,7 @@ impl<N> EntityTypesDef<N> {
 
 impl CommonTypeDefs<ConditionalName> {
     /// The common types with each name that they refer to replaced by that of the type that it means. Refuses the first name that
-    /// means none, and answers want of memory.
+    /// means none, and fails when out of memory.
     pub fn fully_qualify_type_references(
         self,
         alloc: Global,
@@ -183,7 +183,7 @@ impl CommonTypeDefs<ConditionalName> {
 
 impl EntityTypeFragment<ConditionalName> {
     /// The entity type with each name that it refers to replaced by that of the type that it means. Refuses the first name that
-    /// means none, parents before attributes and these before tags, and answers want of memory.
+    /// means none, parents before attributes and these before tags, and fails when out of memory.
     pub fn fully_qualify_type_references(
         self,
         alloc: Global,
@@ -198,7 +198,7 @@ impl EntityTypeFragment<ConditionalName> {
 
 impl EntityTypesDef<ConditionalName> {
     /// The entity types with each name that they refer to replaced by that of the type that it means. Refuses the first name that
-    /// means none, and answers want of memory.
+    /// means none, and fails when out of memory.
     pub fn fully_qualify_type_references(
         self,
         alloc: Global,

@@ -78,8 +78,8 @@ impl Requalify for AllDefs {
 }
 
 impl Type<RawName> {
-    /// The type with each name as what it may stand for where it is written in this namespace, or in the empty one. Answers want
-    /// of memory.
+    /// The type with each name as what it may stand for where it is written in this namespace, or in the empty one. Fails only when
+    /// out of memory.
     pub fn conditionally_qualify_type_references(
         self,
         alloc: Global,
@@ -95,8 +95,8 @@ impl Type<RawName> {
 }
 
 impl Type<ConditionalName> {
-    /// The type with each name replaced by that of the type that it means. Refuses the first name that means none, and answers
-    /// want of memory.
+    /// The type with each name replaced by that of the type that it means. Refuses the first name that means none, and fails
+    /// when out of memory.
     pub fn fully_qualify_type_references(
         self,
         alloc: Global,

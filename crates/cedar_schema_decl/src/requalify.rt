@@ -38,7 +38,7 @@ pub trait Requalify {
 
     ghost renames: { Self → ReferenceKind → Before → Result After Conditional };
 
-    /// The name in the place of this one. Refuses a name in the place of which there is none, and answers want of memory.
+    /// The name in the place of this one. Refuses a name in the place of which there is none, and fails when out of memory.
     fn requalify(
         &self,
         alloc: Global,
@@ -49,8 +49,8 @@ pub trait Requalify {
         ensures refused { IfErr result (Refuses (renames self.now (kind_of kind) (before name))) };
 }
 
-/// The type with other names in the place of its own. Refuses the first name in the place of which there is none, and answers want
-/// of memory.
+/// The type with other names in the place of its own. Refuses the first name in the place of which there is none, and fails when
+/// out of memory.
 #[cycle(requalify)]
 pub fn requalify_type<R: Requalify>(
     alloc: Global,
@@ -129,8 +129,8 @@ fn requalify_variant<R: Requalify>(
     }
 }
 
-/// The record with other names in the place of its own. Refuses the first name in the place of which there is none, and answers
-/// want of memory.
+/// The record with other names in the place of its own. Refuses the first name in the place of which there is none, and fails
+/// when out of memory.
 #[cycle(requalify)]
 pub fn requalify_record<R: Requalify>(
     alloc: Global,
@@ -182,7 +182,7 @@ fn requalify_attribute<R: Requalify>(
     })
 }
 
-/// Other names in the place of these. Refuses the first name in the place of which there is none, and answers want of memory.
+/// Other names in the place of these. Refuses the first name in the place of which there is none, and fails when out of memory.
 pub fn requalify_names<R: Requalify>(
     alloc: Global,
     written: Vec<R::From>,

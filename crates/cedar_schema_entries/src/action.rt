@@ -65,7 +65,7 @@ impl ValidatorActionId {
     }
 
     /// The action of this uid that is declared elsewhere, with these descendants, at this place. It applies to nothing, and its
-    /// context is empty. Answers want of memory.
+    /// context is empty. Fails only when out of memory.
     pub fn new_external(
         alloc: Global,
         name: EntityUID,
@@ -125,7 +125,7 @@ impl ValidatorActionId {
         &self.context
     }
 
-    /// A copy of the type of the context, whose parts are shared. Answers want of memory.
+    /// A copy of the type of the context, whose parts are shared. Fails only when out of memory.
     pub fn context_type(&self) -> Result<Type, AllocError>
         ensures { IfOk result (λ t. type_of t ≡ (action_seen self.now).context) }
     {

@@ -71,7 +71,7 @@ impl ValidatorEntityType {
         }
     }
 
-    /// The enumerated entity type of this name, with these descendants and members, at this place. Answers want of memory.
+    /// The enumerated entity type of this name, with these descendants and members, at this place. Fails only when out of memory.
     pub fn new_enum(
         alloc: Global,
         name: EntityType,
@@ -92,7 +92,7 @@ impl ValidatorEntityType {
         })
     }
 
-    /// The entity type of this name that is declared elsewhere, with these descendants, at this place. Answers want of memory.
+    /// The entity type of this name that is declared elsewhere, with these descendants, at this place. Fails only when out of memory.
     pub fn new_external(
         alloc: Global,
         name: EntityType,

@@ -6,7 +6,7 @@ use std::alloc::{AllocError, Global};
 
 /// Names as they stand in declarations.
 pub trait WrittenName: Drop {
-    /// The name of this text, to which this kind of declaration is due. Fails where the text writes none, and for want of memory.
+    /// The name of this text, to which this kind of declaration is due. Fails where the text writes none, and when out of memory.
     fn read(alloc: Global, text: &str, kind: ReferenceType) -> Result<Self, AllocError>;
 }
 
@@ -29,26 +29,26 @@ impl WrittenName for ConditionalName {
     }
 }
 
-// The raw name of this text. Fails where the text writes none, and for want of memory.
+// The raw name of this text. Fails where the text writes none, and when out of memory.
 pub(crate) fn raw(alloc: Global, text: &str) -> Result<RawName, AllocError> {
     RawName::from_normalized_str(alloc, text)
         .ok()
         .ok_or(AllocError)
 }
 
-/// The name of this text. Fails where the text writes none, and for want of memory.
+/// The name of this text. Fails where the text writes none, and when out of memory.
 pub fn name(alloc: Global, text: &str) -> Result<InternalName, AllocError> {
     InternalName::from_normalized_str(alloc, text)
         .ok()
         .ok_or(AllocError)
 }
 
-/// The identifier of this text. Fails where the text is none, and for want of memory.
+/// The identifier of this text. Fails where the text is none, and when out of memory.
 pub fn id(alloc: Global, text: &str) -> Result<Id, AllocError> {
     Id::from_normalized_str(alloc, text).ok().ok_or(AllocError)
 }
 
-// The names of entity types of this text, with commas between them. Fails where one is no name, and for want of memory.
+// The names of entity types of this text, with commas between them. Fails where one is no name, and when out of memory.
 pub(crate) fn names<N: WrittenName>(alloc: Global, text: &str) -> Result<Vec<N>, AllocError> {
     let mut names = Vec::new(alloc);
     for text in text.split(", ") {

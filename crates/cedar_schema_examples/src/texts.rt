@@ -8,7 +8,7 @@ use std::alloc::{AllocError, Global};
 use std::fmt::Display;
 use std::rc::RcStr;
 
-/// The texts of these, with a space before each. Answers want of memory.
+/// The texts of these, with a space before each. Fails only when out of memory.
 pub fn listed<'a, T: Display + 'a, I: Iterator<Item = &'a T> + Drop>(
     alloc: Global,
     items: I,
@@ -62,7 +62,7 @@ fn kind_text(alloc: Global, kind: &ValidatorEntityTypeKind) -> Result<String, Al
     }
 }
 
-/// The text of an entity type: its name, attributes, tags or members, and what descends from it. Answers want of memory.
+/// The text of an entity type: its name, attributes, tags or members, and what descends from it. Fails only when out of memory.
 pub fn entity_type_text(alloc: Global, ty: &ValidatorEntityType) -> Result<String, AllocError> {
     let attributes = attributes_text(alloc, ty.attributes())?;
     let kind = kind_text(alloc, ty.kind())?;
@@ -70,7 +70,7 @@ pub fn entity_type_text(alloc: Global, ty: &ValidatorEntityType) -> Result<Strin
     format!(in alloc; "{}{attributes}{kind} over{below}\n", ty.name())
 }
 
-/// The text of an action: its uid, what it applies to, its context, and what descends from it. Answers want of memory.
+/// The text of an action: its uid, what it applies to, its context, and what descends from it. Fails only when out of memory.
 pub fn action_text(alloc: Global, action: &ValidatorActionId) -> Result<String, AllocError> {
     let principals = listed(alloc, action.principals())?;
     let resources = listed(alloc, action.resources())?;

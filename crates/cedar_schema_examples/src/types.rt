@@ -129,7 +129,7 @@ fn fields<N: WrittenName>(
 }
 
 // The record type of these attributes, with commas between them, as `a: Long, b?: Set of entity User, c: {d: Bool}`. Fails where one
-// is no attribute, where types nest too deep, and for want of memory.
+// is no attribute, where types nest too deep, and when out of memory.
 pub(crate) fn record<N: WrittenName>(
     alloc: Global,
     text: &str,
@@ -139,7 +139,7 @@ pub(crate) fn record<N: WrittenName>(
 
 /// The type of this text: `Bool`, `Long`, `String`, `entity User`, `common Name`, `extension ip`, or the name alone of an entity type
 /// or a common type; `{a: Long}`, or `Set of` any of these. They nest, to eight types in one another. Fails where the text is none, or
-/// nests deeper, and for want of memory.
+/// nests deeper, and when out of memory.
 pub fn ty<N: WrittenName>(alloc: Global, text: &str) -> Result<Type<N>, AllocError> {
     nested(alloc, text, DEPTH)
 }

@@ -52,7 +52,7 @@ fn standard<N: WrittenName>(alloc: Global, line: &str) -> Result<EntityTypeKind<
 }
 
 /// What is declared of an entity type of this kind, as behind its name in a line of `fragment`: `entity`, `enum`, or another word for
-/// one that is declared elsewhere. Fails where the line declares nothing of one, and for want of memory.
+/// one that is declared elsewhere. Fails where the line declares nothing of one, and when out of memory.
 pub fn kind<N: WrittenName>(
     alloc: Global,
     kind: &str,
@@ -192,7 +192,7 @@ fn put<K: Ord + Drop, V: Drop>(
 /// parents, types of principals, types of resources and context, as `action view | Action read | User, Bot | Doc | {}`, where what
 /// it applies to may be missing; and those that are declared elsewhere with their parents, as `outside view | Action read`. A name
 /// that is declared may have its place behind it, and that of a common type its type's too. Fails where a line isn't such a
-/// declaration, and for want of memory.
+/// declaration, and when out of memory.
 pub fn definition(alloc: Global, lines: &str) -> Result<NamespaceDefinition<RawName>, AllocError> {
     let mut space = NamespaceDefinition {
         common_types: BTreeMap::new(alloc),
@@ -233,7 +233,7 @@ fn spaced(
 
 /// The fragment that the lines declare: those of the empty namespace, and behind each line `namespace N` those of the namespace `N`. The
 /// name of a namespace may have its place behind it, and that of its definition. Fails where a declaration isn't whole, where the name
-/// of a namespace with a place has more than one part, and for want of memory.
+/// of a namespace with a place has more than one part, and when out of memory.
 pub fn fragment(alloc: Global, text: &str) -> Result<Fragment<RawName>, AllocError> {
     let mut namespaces = BTreeMap::new(alloc);
     let mut parts = text.split("namespace ");

@@ -16,7 +16,7 @@ pub data Refusal : Type 0 where
   no_action : Conditional × Text → Refusal
   reserved_type : Name → Refusal
 
--- what is refused. Want of memory tells nothing.
+-- what is refused. Out of memory tells nothing.
 abbrev pub refusal : FragmentError → Option Refusal
 refusal OutOfMemory = None
 refusal (TypeNotDefined c) = Some (no_type (conditional_of c))

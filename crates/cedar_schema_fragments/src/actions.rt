@@ -135,7 +135,7 @@ impl<N, A> ActionsDef<N, A> {
 
 impl ValidatorApplySpec<ConditionalName> {
     /// The types with each name replaced by the entity type that it means. Refuses the first name that means none, or means a
-    /// reserved name, principals before resources, and answers want of memory.
+    /// reserved name, principals before resources, and fails when out of memory.
     pub fn fully_qualify_type_references(
         self,
         alloc: Global,
@@ -177,7 +177,7 @@ impl<'a> Resolve for EntityTypes<'a> {
     }
 }
 
-// The name of the type that a name means. Refuses a name that means none, and answers want of memory.
+// The name of the type that a name means. Refuses a name that means none, and fails when out of memory.
 fn resolved_name(name: &ConditionalName, all_defs: &AllDefs) -> Result<InternalName, FragmentError>
     ensures resolved { IfOk result (λ n. of_types (resolving (defined_of all_defs.now) (conditional_of name.now).kind (conditional_of name.now)) ≡ Ok (name_of n)) }
     ensures refused { IfErr result (Refuses (of_types (resolving (defined_of all_defs.now) (conditional_of name.now).kind (conditional_of name.now)))) }
@@ -222,7 +222,7 @@ impl<'a> Resolve for Parents<'a> {
     }
 }
 
-// The first of these names with which, as its type, an action of this id is declared. Answers want of memory.
+// The first of these names with which, as its type, an action of this id is declared. Fails only when out of memory.
 fn first_action<'a>(
     names: &'a [InternalName],
     id: &RcStr,
@@ -238,7 +238,7 @@ fn first_action<'a>(
     Ok(None)
 }
 
-// Whether an action of this type and id is declared. Answers want of memory.
+// Whether an action of this type and id is declared. Fails only when out of memory.
 fn is_action(name: &InternalName, id: &RcStr, all_defs: &AllDefs) -> Result<bool, AllocError>
     ensures { IfOk result (λ b. b ≡ is_defined_action (defined_of all_defs.now) (record { kind = name_of name.now; id = rc_str_bytes id.now })) }
 {
@@ -268,7 +268,7 @@ fn resolved_context(
 }
 
 // The kind of an action with each name replaced by that of the type that it means. Refuses the first that means none, of
-// principals, resources and context in this order, or a principal or resource type that is reserved, and answers want of memory.
+// principals, resources and context in this order, or a principal or resource type that is reserved, and fails when out of memory.
 fn resolved_kind(
     alloc: Global,
     kind: ActionFragmentKind<ConditionalName, ConditionalName>,
@@ -306,7 +306,7 @@ fn resolved_kind(
 impl ActionFragment<ConditionalName, ConditionalName> {
     /// The action with each name replaced by that of the type that it means, and each parent by the action that it means. Refuses
     /// the first that means none, of principals, resources, context and parents in this order, or a principal or resource type that
-    /// is reserved, and answers want of memory.
+    /// is reserved, and fails when out of memory.
     pub fn fully_qualify_type_references(
         self,
         alloc: Global,
@@ -360,7 +360,7 @@ impl<'a> Resolve for Actions<'a> {
 
 impl ActionsDef<ConditionalName, ConditionalName> {
     /// The actions with each name replaced by that of the type that it means, and each parent by the action that it means. Refuses
-    /// the first that means none, or a principal or resource type that is reserved, and answers want of memory.
+    /// the first that means none, or a principal or resource type that is reserved, and fails when out of memory.
     pub fn fully_qualify_type_references(
         self,
         alloc: Global,

@@ -82,8 +82,8 @@ fn all_marked<N, A>(
     Ok(marked)
 }
 
-/// What these fragments declare: the names of all common types and entity types, and the uids of all actions. Answers want of
-/// memory.
+/// What these fragments declare: the names of all common types and entity types, and the uids of all actions. Fails only when
+/// out of memory.
 pub fn new<N, A>(
     alloc: Global,
     fragments: &[ValidatorSchemaFragment<N, A>],
@@ -97,8 +97,8 @@ pub fn new<N, A>(
     }
 }
 
-/// What this fragment declares: the names of all its common types and entity types, and the uids of its actions. Answers want of
-/// memory.
+/// What this fragment declares: the names of all its common types and entity types, and the uids of its actions. Fails only when
+/// out of memory.
 pub fn single_fragment<N, A>(
     alloc: Global,
     fragment: &ValidatorSchemaFragment<N, A>,

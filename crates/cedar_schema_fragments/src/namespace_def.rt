@@ -141,7 +141,7 @@ fn resolved_entities(
 
 impl ValidatorNamespaceDef<ConditionalName, ConditionalName> {
     /// What is declared in a namespace, which is the empty one where it has no name, under full names, with what each name may
-    /// stand for. Refuses actions of a reserved type, and answers want of memory.
+    /// stand for. Refuses actions of a reserved type, and fails when out of memory.
     pub fn from_namespace_definition(
         alloc: Global,
         namespace: Option<InternalName>,
@@ -163,8 +163,8 @@ impl ValidatorNamespaceDef<ConditionalName, ConditionalName> {
         })
     }
 
-    /// A namespace, which is the empty one where it has no name, that declares these common types alone, under full names. Answers
-    /// want of memory.
+    /// A namespace, which is the empty one where it has no name, that declares these common types alone, under full names. Fails only
+    /// when out of memory.
     pub fn from_common_type_defs(
         alloc: Global,
         namespace: Option<InternalName>,
@@ -182,8 +182,8 @@ impl ValidatorNamespaceDef<ConditionalName, ConditionalName> {
         })
     }
 
-    /// A namespace, which is the empty one where it has no name, that declares this common type alone, under its full name. Answers
-    /// want of memory.
+    /// A namespace, which is the empty one where it has no name, that declares this common type alone, under its full name. Fails only
+    /// when out of memory.
     pub fn from_common_type_def(
         alloc: Global,
         namespace: Option<InternalName>,
@@ -206,7 +206,7 @@ impl ValidatorNamespaceDef<ConditionalName, ConditionalName> {
 
     /// The namespace with each name replaced by that of the type that it means, and each parent of an action by the action that it
     /// means. Refuses the first that means none, of common types, entity types and actions in this order, or a principal or
-    /// resource type that is reserved, and answers want of memory.
+    /// resource type that is reserved, and fails when out of memory.
     pub fn fully_qualify_type_references(
         self,
         alloc: Global,
@@ -279,7 +279,7 @@ impl Resolve for Definitions {
 
 impl ValidatorSchemaFragment<ConditionalName, ConditionalName> {
     /// What is declared in each namespace of a fragment as it is written, under full names, with what each name may stand for.
-    /// Refuses actions of a reserved type, and answers want of memory.
+    /// Refuses actions of a reserved type, and fails when out of memory.
     pub fn from_schema_fragment(
         alloc: Global,
         fragment: Fragment<RawName>,
@@ -293,7 +293,7 @@ impl ValidatorSchemaFragment<ConditionalName, ConditionalName> {
 
     /// The fragment with each name replaced by that of the type that it means, and each parent of an action by the action that it
     /// means. Refuses the first that means none, namespace by namespace, or a principal or resource type that is reserved, and
-    /// answers want of memory.
+    /// fails when out of memory.
     pub fn fully_qualify_type_references(
         self,
         alloc: Global,

@@ -60,7 +60,7 @@ struct WrittenActions<'a> {
     ty: &'a EntityType,
 }
 
-// The name of what is declared in a namespace, or in the empty one, under this word, at a place. Answers want of memory.
+// The name of what is declared in a namespace, or in the empty one, under this word, at a place. Fails only when out of memory.
 pub(crate) fn full_name(
     alloc: Global,
     namespace: Option<&InternalName>,
@@ -387,7 +387,7 @@ pub(crate) fn pairs<K: Ord + Drop, V: Drop>(
 }
 
 // The common types that are written in a namespace, or in the empty one, under their full names, with what each name may stand
-// for. Answers want of memory.
+// for. Fails only when out of memory.
 #[tactic(auto, using(crate::proofs::Qualifying::commons_are))]
 pub(crate) fn commons_in(
     alloc: Global,
@@ -417,7 +417,7 @@ pub(crate) fn named_commons(
 }
 
 // The entity types that are written in a namespace, or in the empty one, under their full names, with what each name may stand
-// for. Answers want of memory.
+// for. Fails only when out of memory.
 #[tactic(auto, using(crate::proofs::Qualifying::entities_are))]
 pub(crate) fn entities_in(
     alloc: Global,
@@ -453,7 +453,7 @@ fn actions_of_type(
 }
 
 // The actions that are written in a namespace, or in the empty one, under their uids, with what each name may stand for. Refuses
-// actions of a reserved type, and answers want of memory.
+// actions of a reserved type, and fails when out of memory.
 pub(crate) fn actions_in(
     alloc: Global,
     actions: BTreeMap<RcStr, ActionType<RawName>>,

@@ -28,14 +28,14 @@ pub trait Resolve {
 
     ghost resolves: { Self → Before → Result After Refusal };
 
-    /// The part in the place of this one. Refuses a part in the place of which there is none, and answers want of memory.
+    /// The part in the place of this one. Refuses a part in the place of which there is none, and fails when out of memory.
     fn resolve(&self, alloc: Global, part: Self::From) -> Result<Self::To, FragmentError>
         ensures made { IfOk result (λ r. resolves self.now (before part) ≡ Ok (after r)) }
         ensures refused { IfErr result (Refuses (resolves self.now (before part))) };
 }
 
-/// What stands in the place of these parts, in order. Refuses the first in the place of which there is none, and answers want of
-/// memory.
+/// What stands in the place of these parts, in order. Refuses the first in the place of which there is none, and fails when out
+/// of memory.
 pub fn resolve_each<R: Resolve>(
     alloc: Global,
     parts: Vec<R::From>,

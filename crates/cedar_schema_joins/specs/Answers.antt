@@ -10,7 +10,7 @@ use Rattle.cedar_expr_functions.specs.declared.err.ExtensionFunctionLookupError.
 use Rattle.cedar_expr_functions.specs.declared.err.ExtensionFunctionLookupError.TheVariants.{OutOfMemory, FuncDoesNotExist}
 use Rattle.cedar_schema_model.specs.Restricted.{Asked, no_function, asked_truth, asked_for}
 
--- The fault is that the function that lacks isn't there. Want of memory says nothing.
+-- The fault is that the function that lacks isn't there. Out of memory says nothing.
 abbrev pub RefusesAsked : Asked → ExtensionFunctionLookupError → Type 0
 RefusesAsked a OutOfMemory = Unit {0}
 RefusesAsked a (FuncDoesNotExist e) = a ≡ no_function (plain_name_of e.name)

@@ -17,8 +17,8 @@ pub(crate) trait Functions {
     // The signatures of the functions.
     ghost signatures: { Self → List Signature };
 
-    // Whether the function of this name gives values of the extension type. Refuses a name that no function has, and answers
-    // want of memory for the refusal.
+    // Whether the function of this name gives values of the extension type. Refuses a name that no function has, and fails
+    // when out of memory for the refusal.
     fn gives(&self, function: &Name, name: &Name) -> Result<bool, ExtensionFunctionLookupError>
         ensures { AnswersAsked (call_asked (signatures self.now) (plain_name_of function.now) (plain_name_of name.now)) result };
 }

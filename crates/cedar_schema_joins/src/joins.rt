@@ -19,7 +19,7 @@ use cedar_store_parts::ValidationMode;
 use std::alloc::{AllocError, Global};
 use std::rc::{Rc, RcStr};
 
-/// The join of two types in this mode, where there is one. Answers want of memory.
+/// The join of two types in this mode, where there is one. Fails only when out of memory.
 pub fn least_upper_bound(
     alloc: Global,
     ty0: &Type,
@@ -31,7 +31,7 @@ pub fn least_upper_bound(
     join(mode, alloc, ty0, ty1)
 }
 
-/// The join of all these types, one after the other, where there is one; of none, `Never`. Answers want of memory.
+/// The join of all these types, one after the other, where there is one; of none, `Never`. Fails only when out of memory.
 pub fn reduce_to_least_upper_bound(
     alloc: Global,
     tys: &[Type],

@@ -28,7 +28,7 @@ pub trait DeclaredAttributes {
 }
 
 /// What is declared of the attribute for the values of the type: for a record what it lists, for entities what all members of
-/// the union declare. Answers want of memory.
+/// the union declare. Fails only when out of memory.
 pub fn lookup_attribute_type<S: DeclaredAttributes>(
     alloc: Global,
     schema: &S,

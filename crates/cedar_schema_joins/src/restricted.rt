@@ -35,7 +35,7 @@ impl<'a, T> Drop for Fields<'a, T> {
 }
 
 /// Whether the restricted expression is of the type: a literal, a set or a record as a value is, and a call where the function
-/// gives the extension type. Refuses a function that is asked for and isn't in the table, and answers want of memory for the
+/// gives the extension type. Refuses a function that is asked for and isn't in the table, and fails when out of memory for the
 /// refusal.
 pub fn typecheck_restricted_expr<T>(
     ty: &Type,

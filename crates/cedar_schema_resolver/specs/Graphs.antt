@@ -50,7 +50,7 @@ pub record IsOrder (g : Graph) (is : List ℕ) : Type 0 where
   pub after : (k j : ℕ) → k < length is → Reaches (HasEdge g) (get_or is k 0) j → Contains (take k is) j
   pub apart : (i : ℕ) → Reaches (HasEdge g) i i → ⊥
 
--- The error tells a node that leads to itself. Want of memory tells none.
+-- The error tells a node that leads to itself. Out of memory tells none.
 abbrev pub TellsCycle : Graph → CycleError → Type 0
 TellsCycle g OutOfMemory = Unit {0}
 TellsCycle g (Cycle i) = Reaches (HasEdge g) i i

@@ -51,7 +51,7 @@ SolvedTypesAreResolved = (s : Setting) (e : Declarations) (ts : List (Name × Ty
 abbrev pub UsesAreDeclared : Type 0
 UsesAreDeclared = (d : Defined) (e : Declarations) (ts : List (Name × TypeForm Name)) → WritesCommons d e ts → (m n : Name) → UsesIn d ts m n ↔ Uses e m n
 
--- the fault of declarations that an error tells. Want of memory tells none.
+-- the fault of declarations that an error tells. Out of memory tells none.
 abbrev pub fault_told : ResolveError → Option SchemaFault
 fault_told OutOfMemory = None
 fault_told (UnknownExtensionType n) = Some unknown_extension_type

@@ -38,7 +38,7 @@ StandsTwice (x ∷ xs) s = ((x ≡ s) × Contains xs s) ⊎ StandsTwice xs s
 abbrev pub StoodBefore : {S : Type 0} → List S → ℕ → Type 0
 StoodBefore {S} names i = (s : S) × IsAt names i s × Contains (take i names) s
 
--- The error tells one that stands twice, by the number of a place at which it stood before. Want of memory tells none.
+-- The error tells one that stands twice, by the number of a place at which it stood before. Out of memory tells none.
 abbrev pub TellsRepeated : {S : Type 0} → List S → RepeatedError → Type 0
 TellsRepeated names OutOfMemory = Unit {0}
 TellsRepeated names (Repeated i) = StoodBefore names i

@@ -20,7 +20,7 @@ use Rattle.cedar_schema_resolver.specs.declared.err.ResolveError.TheVariants.{Ou
 pub data Refusal : Type 0 where
   unknown_extension reserved_type repeated_common common_on_cycle : Name → Refusal
 
--- what is refused. Want of memory tells nothing.
+-- what is refused. Out of memory tells nothing.
 abbrev pub refusal : ResolveError → Option Refusal
 refusal OutOfMemory = None
 refusal (UnknownExtensionType n) = Some (unknown_extension (plain_name_of n))

@@ -28,7 +28,7 @@ IsUnknownIn x t n = Contains (extensions_of t) n × (Contains x n → ⊥)
 abbrev pub IsReservedIn : Defined → TypeForm Name → Name → Type 0
 IsReservedIn d t n = (is_reserved n ≡ true) × (Contains (meant_in d t) (meant_entity n) ⊎ Contains (extensions_of t) n)
 
--- The error tells a fault of the type. Want of memory tells none.
+-- The error tells a fault of the type. Out of memory tells none.
 abbrev pub TellsUntold : Setting → TypeForm Name → ResolveError → Type 0
 TellsUntold s t OutOfMemory = Unit {0}
 TellsUntold s t (UnknownExtensionType n) = IsUnknownIn s.extensions t (plain_name_of n)

@@ -39,7 +39,7 @@ pub record AreKept (ts : List (Name × TypeForm Name)) (kept : Name → Option T
 abbrev pub SomeDefinition : List (Name × TypeForm Name) → (TypeForm Name → Type 0) → Type 0
 SomeDefinition ts holds = (p : Name × TypeForm Name) × Contains ts p × holds p.1
 
--- The error tells a fault of the common types. Want of memory tells none.
+-- The error tells a fault of the common types. Out of memory tells none.
 abbrev pub TellsUnsolved : Defined → List Name → List (Name × TypeForm Name) → ResolveError → Type 0
 TellsUnsolved d x ts OutOfMemory = Unit {0}
 TellsUnsolved d x ts (UnknownExtensionType n) = SomeDefinition ts (λ t. IsUnknownIn x t (plain_name_of n))
@@ -47,7 +47,7 @@ TellsUnsolved d x ts (ReservedName e) = SomeDefinition ts (λ t. IsReservedIn d 
 TellsUnsolved d x ts (DuplicateCommonType n) = StandsTwice (names_of ts) (name_of n)
 TellsUnsolved d x ts (CycleInCommonTypeReferences n) = Reaches (UsesIn d ts) (name_of n) (name_of n)
 
--- The error tells a fault of the common types where what their types write isn't asked. Want of memory tells none.
+-- The error tells a fault of the common types where what their types write isn't asked. Out of memory tells none.
 abbrev pub TellsUnordered : Defined → List (Name × TypeForm Name) → ResolveError → Type 0
 TellsUnordered d ts OutOfMemory = Unit {0}
 TellsUnordered d ts (UnknownExtensionType n) = ⊥

@@ -7,7 +7,7 @@ use crate::search::reached_from;
 use std::alloc::{AllocError, Global};
 
 /// For each node those that one or more edges lead to from it, each once. It takes no more steps than there are nodes, and nodes
-/// times edges. Answers want of memory.
+/// times edges. Fails only when out of memory.
 pub fn closure(alloc: Global, graph: &[Vec<usize>]) -> Result<Vec<Vec<usize>>, AllocError>
     requires { IsWithin graph.now }
     ensures { IfOk result (λ c. IsClosure graph.now c.items) }

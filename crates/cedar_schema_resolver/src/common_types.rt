@@ -38,7 +38,7 @@ impl CommonTypes {
         self.types.get(name)
     }
 
-    /// Takes the common type of this name for one that stands for this type. Answers want of memory, and then the types stay.
+    /// Takes the common type of this name for one that stands for this type. Fails only when out of memory, and then the types stay.
     pub fn insert(&mut self, name: InternalName, ty: Type) -> Result<(), AllocError>
         ensures inserted { OnOk result (common_seen self.new ≡ commons_with (name_of name) (type_of ty) (common_seen self.old)) }
         ensures kept { OnOk result (common_kept self.new ≡ kept_with (name_of name) (type_of ty) (common_kept self.old)) }

@@ -13,7 +13,7 @@ use std::alloc::{AllocError, Global};
 use std::collections::BTreeSet;
 
 /// The graph of the numbers of nodes, with an edge from each to each of its parents that is a node. Refuses a node that stands twice,
-/// and answers want of memory.
+/// and fails when out of memory.
 pub fn graph<N: Node>(
     alloc: Global,
     nodes: &[(N, Vec<N>)],
@@ -27,7 +27,7 @@ pub fn graph<N: Node>(
     Ok(graph)
 }
 
-// The nodes that the edges of each lead to, as sets. Answers want of memory.
+// The nodes that the edges of each lead to, as sets. Fails only when out of memory.
 fn sets<N: Node>(
     alloc: Global,
     nodes: &[(N, Vec<N>)],
@@ -45,7 +45,7 @@ fn sets<N: Node>(
 }
 
 /// For each of these nodes, which stand with their parents, the set of those that descend from it by one or more parents. Refuses a
-/// node that stands twice, and answers want of memory.
+/// node that stands twice, and fails when out of memory.
 pub fn descendants<N: Node>(
     alloc: Global,
     nodes: &[(N, Vec<N>)],

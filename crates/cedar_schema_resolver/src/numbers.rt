@@ -19,7 +19,7 @@ fn name_at<N: Node>(nodes: &[(N, Vec<N>)], number: usize) -> &N
     &nodes[number].0
 }
 
-/// The numbers of the nodes, each of which stands with its parents. Refuses a node that stands twice, and answers want of memory.
+/// The numbers of the nodes, each of which stands with its parents. Refuses a node that stands twice, and fails when out of memory.
 pub fn numbers<N: Node>(
     alloc: Global,
     nodes: &[(N, Vec<N>)],
@@ -38,7 +38,7 @@ pub fn numbers<N: Node>(
     Ok(numbers)
 }
 
-// The numbers of these nodes; one without a number is passed over. Answers want of memory.
+// The numbers of these nodes; one without a number is passed over. Fails only when out of memory.
 fn numbers_of<N: Node>(
     alloc: Global,
     numbers: &BTreeMap<N, usize>,
@@ -56,7 +56,7 @@ fn numbers_of<N: Node>(
     Ok(found)
 }
 
-/// The numbers of the parents of each node. Answers want of memory.
+/// The numbers of the parents of each node. Fails only when out of memory.
 pub fn rows<N: Node>(
     alloc: Global,
     numbers: &BTreeMap<N, usize>,
@@ -71,7 +71,7 @@ pub fn rows<N: Node>(
     Ok(rows)
 }
 
-/// The nodes of these numbers, as a set. Answers want of memory.
+/// The nodes of these numbers, as a set. Fails only when out of memory.
 pub fn names_at<N: Node>(
     alloc: Global,
     nodes: &[(N, Vec<N>)],

@@ -30,7 +30,7 @@ fn first_on_cycle(rows: &[Vec<usize>]) -> Option<usize>
     None
 }
 
-// The nodes with the lengths of their rows. Answers want of memory.
+// The nodes with the lengths of their rows. Fails only when out of memory.
 fn ranks(alloc: Global, rows: &[Vec<usize>]) -> Result<Vec<Rank>, AllocError>
     ensures { IfOk result (λ r. r.items ≡ ranks_from rows.now 0) }
 {
@@ -52,7 +52,7 @@ fn sorted(ranks: Vec<Rank>) -> Vec<Rank>
     sorted
 }
 
-// The nodes alone. Answers want of memory.
+// The nodes alone. Fails only when out of memory.
 fn nodes(alloc: Global, ranks: &[Rank]) -> Result<Vec<usize>, AllocError>
     ensures { IfOk result (λ ns. ns.items ≡ map (λ r. r.node) ranks.now) }
 {
@@ -63,7 +63,7 @@ fn nodes(alloc: Global, ranks: &[Rank]) -> Result<Vec<usize>, AllocError>
     Ok(nodes)
 }
 
-// The nodes, those that lead to fewer first. Answers want of memory.
+// The nodes, those that lead to fewer first. Fails only when out of memory.
 fn by_rank(alloc: Global, rows: &[Vec<usize>]) -> Result<Vec<usize>, AllocError>
     ensures { IfOk result (λ ns. AreByRank rows.now ns.items) }
 {
@@ -73,7 +73,7 @@ fn by_rank(alloc: Global, rows: &[Vec<usize>]) -> Result<Vec<usize>, AllocError>
 }
 
 /// The nodes in an order in which each stands after all that one or more edges lead to from it. Refuses a graph in which a node
-/// leads to itself, and answers want of memory.
+/// leads to itself, and fails when out of memory.
 pub fn in_order(alloc: Global, graph: &[Vec<usize>]) -> Result<Vec<usize>, CycleError>
     requires { IsWithin graph.now }
     ensures order { IfOk result (λ ns. IsOrder graph.now ns.items) }

@@ -91,7 +91,7 @@ fn add_name(
     Ok(found)
 }
 
-/// The names of the common types that a type refers to. Answers want of memory.
+/// The names of the common types that a type refers to. Fails only when out of memory.
 pub fn common_type_references(
     alloc: Global,
     ty: &Type<InternalName>,
@@ -102,7 +102,7 @@ pub fn common_type_references(
     add_type(Vec::new(alloc), ty, all_defs)
 }
 
-/// Each common type with the names of those that its definition refers to. Answers want of memory.
+/// Each common type with the names of those that its definition refers to. Fails only when out of memory.
 pub fn with_references(
     alloc: Global,
     commons: &[(InternalName, CommonType<InternalName>)],

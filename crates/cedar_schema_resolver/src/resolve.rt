@@ -34,7 +34,7 @@ fn common_at(
 }
 
 // The numbers of the common types, each after those that it uses. Refuses one that is declared twice and one that uses itself, and
-// answers want of memory.
+// fails when out of memory.
 fn in_order_of_use(
     alloc: Global,
     commons: &[(InternalName, CommonType<InternalName>)],
@@ -113,7 +113,7 @@ fn types_in_order(
 
 /// The types that these common types stand for, by their names, each with those that it uses replaced. Refuses one that is declared
 /// twice, one that uses itself, an extension type that isn't one of these, and a reserved name of an entity type or an extension
-/// type, and answers want of memory.
+/// type, and fails when out of memory.
 pub fn resolve_common_types(
     alloc: Global,
     commons: &[(InternalName, CommonType<InternalName>)],

@@ -40,7 +40,7 @@ pub struct TypeResolver<'a> {
 impl<'a> TypeResolver<'a> {
     /// The type that a written one with resolved names stands for, with the common types replaced; a name that isn't declared stands
     /// for the type of no value. Refuses an extension type that isn't known, and a reserved name of an entity type or an extension
-    /// type, and answers want of memory.
+    /// type, and fails when out of memory.
     pub fn try_into_validator_type(
         &self,
         alloc: Global,

@@ -6,7 +6,7 @@ ghost use Rattle.cedar_schema_resolver.specs.Found.{AreMarks, AreBelow, with_nod
 
 use std::alloc::{AllocError, Global};
 
-// Takes a node as found, if it isn't yet. The marks tell which are. Answers want of memory.
+// Takes a node as found, if it isn't yet. The marks tell which are. Fails only when out of memory.
 fn add(marks: &mut Vec<bool>, found: &mut Vec<usize>, node: usize) -> Result<(), AllocError>
     requires within { node < length marks.old.items }
     requires marks { AreMarks marks.old.items found.old.items }
@@ -22,7 +22,7 @@ fn add(marks: &mut Vec<bool>, found: &mut Vec<usize>, node: usize) -> Result<(),
     Ok(())
 }
 
-// Takes these nodes as found. Answers want of memory.
+// Takes these nodes as found. Fails only when out of memory.
 fn add_all(marks: &mut Vec<bool>, found: &mut Vec<usize>, nodes: &[usize]) -> Result<(), AllocError>
     requires within { AreBelow (length marks.old.items) nodes.now }
     requires marks { AreMarks marks.old.items found.old.items }
@@ -58,7 +58,7 @@ fn unmark(marks: &mut Vec<bool>, found: &[usize])
 }
 
 /// The nodes that one or more edges lead to from this one, each once. The marks tell that no node is found, before and after. It
-/// takes no more steps than there are nodes to find, and edges from these. Answers want of memory.
+/// takes no more steps than there are nodes to find, and edges from these. Fails only when out of memory.
 pub fn reached_from(
     alloc: Global,
     marks: &mut Vec<bool>,

@@ -8,7 +8,7 @@ ghost use Rattle.cedar_schema_resolver.specs.Rows.{HasEmptyRows, HasAdded};
 use crate::search::row;
 use std::alloc::{AllocError, Global};
 
-// So many rows without a node. Answers want of memory.
+// So many rows without a node. Fails only when out of memory.
 fn empty_rows(alloc: Global, count: usize) -> Result<Vec<Vec<usize>>, AllocError>
     ensures size { IfOk result (λ rows. length rows.items ≡ count) }
     ensures empty { IfOk result (λ rows. HasEmptyRows rows.items) }
@@ -20,7 +20,7 @@ fn empty_rows(alloc: Global, count: usize) -> Result<Vec<Vec<usize>>, AllocError
     Ok(rows)
 }
 
-// Puts a node at the end of a row. Answers want of memory.
+// Puts a node at the end of a row. Fails only when out of memory.
 fn add_to_row(rows: &mut Vec<Vec<usize>>, at: usize, node: usize) -> Result<(), AllocError>
     requires { at < length rows.old.items }
     ensures size { OnOk result (length rows.new.items ≡ length rows.old.items) }
@@ -30,7 +30,7 @@ fn add_to_row(rows: &mut Vec<Vec<usize>>, at: usize, node: usize) -> Result<(), 
     Ok(())
 }
 
-// Puts a node at the ends of these rows. Answers want of memory.
+// Puts a node at the ends of these rows. Fails only when out of memory.
 fn add_to_rows(rows: &mut Vec<Vec<usize>>, at: &[usize], node: usize) -> Result<(), AllocError>
     requires { AreBelow (length rows.old.items) at.now }
     ensures size { OnOk result (length rows.new.items ≡ length rows.old.items) }
@@ -42,7 +42,7 @@ fn add_to_rows(rows: &mut Vec<Vec<usize>>, at: &[usize], node: usize) -> Result<
     Ok(())
 }
 
-/// The graph with an edge from one node to another for each edge from the other to the one. Answers want of memory.
+/// The graph with an edge from one node to another for each edge from the other to the one. Fails only when out of memory.
 pub fn turned(alloc: Global, graph: &[Vec<usize>]) -> Result<Vec<Vec<usize>>, AllocError>
     requires { IsWithin graph.now }
     ensures { IfOk result (λ rows. IsTurned graph.now rows.items) }

@@ -9,7 +9,7 @@ use Rattle.cedar_schema_model.specs.Unsound.{first_fault, Unsound, undeclared_ty
 use Rattle.cedar_schema_sound.specs.declared.err.UnsoundSchemaError.{UnsoundSchemaError}
 use Rattle.cedar_schema_sound.specs.declared.err.UnsoundSchemaError.TheVariants.{OutOfMemory, UndeclaredType, UnknownExtensionType, TypeNamedAction, TypeLeftOut, UndeclaredAction, ActionOfOtherType, ContextNotClosedRecord, ActionBelowItself, ActionLeftOut}
 
--- what is wrong. Want of memory tells nothing.
+-- what is wrong. Out of memory tells nothing.
 abbrev pub refusal : UnsoundSchemaError → Option Unsound
 refusal OutOfMemory = None
 refusal (UndeclaredType t) = Some (undeclared_type (type_name_of t))

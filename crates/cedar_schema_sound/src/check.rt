@@ -64,7 +64,7 @@ fn first_unsound_action<'a>(
     None
 }
 
-// Refuses a schema that isn't what it has to be, by a copy of what is wrong with it first. Answers want of memory.
+// Refuses a schema that isn't what it has to be, by a copy of what is wrong with it first. Fails only when out of memory.
 fn check_sound(
     schema: &ValidatorSchema,
     extension_types: &BTreeSet<Name>,
@@ -79,7 +79,7 @@ fn check_sound(
 }
 
 /// The schema itself, if it is what it has to be, with these extension types known. Refuses any other by what is wrong with it
-/// first, and answers want of memory.
+/// first, and fails when out of memory.
 pub fn try_validate(
     schema: ValidatorSchema,
     extension_types: &BTreeSet<Name>,

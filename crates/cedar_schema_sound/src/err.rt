@@ -66,7 +66,7 @@ pub enum UnsoundSchemaError {
 }
 
 impl UnsoundSchemaError {
-    // The error that tells of a copy of this. Answers want of memory.
+    // The error that tells of a copy of this. Fails only when out of memory.
     pub(crate) fn of_unsound(unsound: Unsound<'_>) -> Result<UnsoundSchemaError, AllocError>
         ensures { IfOk result (λ e. refusal e ≡ Some (fault_seen unsound.entry)) }
     {

@@ -14,7 +14,7 @@ use std::alloc::{AllocError, Global};
 use std::rc::RcStr;
 
 /// All attributes that are declared for the values of the type: of a record those that it lists, of entities those that all members of
-/// the union declare with types that join. Any other type has none. Answers want of memory.
+/// the union declare with types that join. Any other type has none. Fails only when out of memory.
 pub fn all_attributes<S: DeclaredAttributes>(
     alloc: Global,
     schema: &S,
@@ -35,7 +35,7 @@ pub fn all_attributes<S: DeclaredAttributes>(
 }
 
 /// All attributes that are declared for these entities: of any entity none, else those that all members of the union declare with types
-/// that join, each with the permissive join, required where all require it. Answers want of memory.
+/// that join, each with the permissive join, required where all require it. Fails only when out of memory.
 pub fn all_known_attrs<S: DeclaredAttributes>(
     alloc: Global,
     schema: &S,

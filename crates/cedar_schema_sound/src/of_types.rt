@@ -16,7 +16,7 @@ pub trait AllAttributes {
     /// Whose attributes these are.
     ghost typed: { Self → Ty };
 
-    /// All attributes that the schema declares for its values. Answers want of memory.
+    /// All attributes that the schema declares for its values. Fails only when out of memory.
     fn all_attributes<S: DeclaredAttributes>(
         &self,
         alloc: Global,
@@ -30,7 +30,7 @@ pub trait AllKnownAttrs {
     /// Of which type these entities are.
     ghost typed: { Self → Ty };
 
-    /// All attributes that the schema declares for each of these entities. Answers want of memory.
+    /// All attributes that the schema declares for each of these entities. Fails only when out of memory.
     fn all_known_attrs<S: DeclaredAttributes>(
         &self,
         alloc: Global,

@@ -7,7 +7,7 @@ use Rattle.cedar_schema_types.specs.CoreTypes.{Unreadable, of_no_value, of_any_e
 use Rattle.cedar_schema_types.specs.declared.err.CoreTypeError.{CoreTypeError}
 use Rattle.cedar_schema_types.specs.declared.err.CoreTypeError.TheVariants.{OutOfMemory, Never, AnyEntity, SeveralEntityTypes}
 
--- what stands in the way. Want of memory tells nothing.
+-- what stands in the way. Out of memory tells nothing.
 abbrev pub refusal : CoreTypeError → Option Unreadable
 refusal OutOfMemory = None
 refusal Never = Some of_no_value

@@ -15,7 +15,7 @@ use std::collections::btree_map::{Iter, Keys};
 use std::rc::{Rc, RcStr};
 
 impl Attributes {
-    /// These attributes. Of a repeated name the last stands. Answers want of memory.
+    /// These attributes. Of a repeated name the last stands. Fails only when out of memory.
     #[tactic(auto, using(crate::proofs::Entries::attributes_are))]
     pub fn with_attributes(
         alloc: Global,
@@ -28,7 +28,7 @@ impl Attributes {
         Ok(Attributes { attrs })
     }
 
-    /// Attributes of these types, all of them required. Of a repeated name the last stands. Answers want of memory.
+    /// Attributes of these types, all of them required. Of a repeated name the last stands. Fails only when out of memory.
     pub fn with_required_attributes(
         alloc: Global,
         required_attrs: Vec<(RcStr, Type)>,

@@ -34,7 +34,7 @@ impl EntityLUB {
     ghost use Rattle.cedar_schema_model.specs.Join.{names_of_both, are_disjoint};
     ghost use Rattle.cedar_schema_types.specs.Unions.{members_of, only_member};
 
-    /// The union of one entity type alone. Answers want of memory.
+    /// The union of one entity type alone. Fails only when out of memory.
     pub fn single_entity(alloc: Global, ty: EntityType) -> Result<EntityLUB, AllocError>
         ensures { IfOk result (λ u. members_of u ≡ type_name_of ty ∷ []) }
     {
@@ -104,7 +104,7 @@ impl EntityLUB {
         true
     }
 
-    /// The union of both. Answers want of memory.
+    /// The union of both. Fails only when out of memory.
     pub fn union(&self, alloc: Global, other: &EntityLUB) -> Result<EntityLUB, AllocError>
         ensures { IfOk result (λ u. members_of u ≡ names_of_both (members_of self.now) (members_of other.now)) }
     {

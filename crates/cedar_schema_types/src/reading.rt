@@ -18,7 +18,7 @@ use std::rc::{Rc, RcStr};
 
 /// The type by which the values of this type can be read: of one truth value that of both, and of all sets that of the empty set.
 /// Refuses a type in which the type of no value stands, that of any entity, or a union of several entity types; the refusal tells
-/// the first of these, outside in and attributes in the order of their names. Answers want of memory.
+/// the first of these, outside in and attributes in the order of their names. Fails only when out of memory.
 #[cycle(reading)]
 pub fn core_schema_type(alloc: Global, ty: &Type) -> Result<CoreSchemaType, CoreTypeError>
     ensures read { IfOk result (λ c. core_read (type_of ty.now) ≡ Ok (core_type_of c)) }

@@ -120,7 +120,7 @@ impl Type {
         Type::String
     }
 
-    /// The type of the entities of one entity type. Answers want of memory.
+    /// The type of the entities of one entity type. Fails only when out of memory.
     pub fn named_entity_reference(alloc: Global, ty: EntityType) -> Result<Type, AllocError>
         ensures { IfOk result (λ t. type_of t ≡ entity_type (type_name_of ty)) }
     {
@@ -135,7 +135,7 @@ impl Type {
         Type::Entity(EntityKind::AnyEntity)
     }
 
-    /// The type of the sets of this element type. Answers want of memory.
+    /// The type of the sets of this element type. Fails only when out of memory.
     pub fn set(alloc: Global, element_type: Type) -> Result<Type, AllocError>
         ensures { IfOk result (λ t. type_of t ≡ set_type (type_of element_type)) }
     {
@@ -152,7 +152,7 @@ impl Type {
         Type::Set { element_type: None }
     }
 
-    /// The record type of these attributes, all of them required. Of a repeated name the last stands. Answers want of memory.
+    /// The record type of these attributes, all of them required. Of a repeated name the last stands. Fails only when out of memory.
     pub fn record_with_required_attributes(
         alloc: Global,
         required_attrs: Vec<(RcStr, Type)>,
@@ -167,7 +167,7 @@ impl Type {
         })
     }
 
-    /// The record type of these attributes. Of a repeated name the last stands. Answers want of memory.
+    /// The record type of these attributes. Of a repeated name the last stands. Fails only when out of memory.
     pub fn record_with_attributes(
         alloc: Global,
         attrs: Vec<(RcStr, AttributeType)>,

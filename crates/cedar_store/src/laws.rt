@@ -41,7 +41,7 @@ pub fn parts_are_compared()
     ensures hash { (a b : Part) → ⟦<PrincipalOrResource as PartialEq>⟧.eq a b ≡ true → ⟦<PrincipalOrResource as Hash>⟧.hash_input a ≡ ⟦<PrincipalOrResource as Hash>⟧.hash_input b }
 {}
 
-/// Why a policy is no static one is equal where it is want of memory both times, or a slot both times and these are equal.
+/// Why a policy is no static one is equal where it is out of memory both times, or a slot both times and these are equal.
 pub fn slot_refusals_are_compared()
     ensures memory { ⟦<UnexpectedSlotError as PartialEq>⟧.eq OutOfMemory OutOfMemory ≡ true }
     ensures slots { (s t : Placed) → ⟦<UnexpectedSlotError as PartialEq>⟧.eq (FoundSlot s) (FoundSlot t) ≡ ⟦<Slot as PartialEq>⟧.eq s t }

@@ -79,7 +79,7 @@ find User::d : unknown("User::\"d\"") (entity of type `User`)
 request_type User Action::view Doc : User Action::"view" Doc
 "##;
 
-/// The first row that says something else, with what it says; nothing where all hold. Fails for want of memory.
+/// The first row that says something else, with what it says; nothing where all hold. Fails when out of memory.
 pub fn wrong_entity_row(alloc: Global) -> Made<String> {
     wrong_row(alloc, ENTITIES)
 }

@@ -78,7 +78,7 @@ fn put_copy(parts: &mut Parts, text: &str) -> Made<()> {
     lay(&mut parts.policies, made)
 }
 
-/// The template `p` of this scope, written as in the rows, and this body. Fails where they write none, and for want of memory.
+/// The template `p` of this scope, written as in the rows, and this body. Fails where they write none, and when out of memory.
 pub fn template(alloc: Global, asked: &str, text: &str) -> Made<Template> {
     let mut parts = Parts::new(alloc);
     scope(&mut parts, asked)?;

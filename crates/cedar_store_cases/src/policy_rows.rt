@@ -128,7 +128,7 @@ condition : principal User::a == action Action::view == resource Doc::d in true@
 body true@4 ; when p ; condition : true
 "##;
 
-/// The first row that says something else, with what it says; nothing where all hold. Fails for want of memory.
+/// The first row that says something else, with what it says; nothing where all hold. Fails when out of memory.
 pub fn wrong_policy_row(alloc: Global) -> Made<String> {
     wrong_row(alloc, ROWS)
 }

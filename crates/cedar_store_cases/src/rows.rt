@@ -8,7 +8,7 @@ use std::alloc::Global;
 /// Goes over the rows, and gives the first that says something else, with what it says; nothing where all hold. A row is a command, or
 /// several with ` ; ` between them, and, behind ` : `, what they say, which is nothing where there is no ` : `. A command's first word is
 /// its verb; the module of each verb says what it does. What a command makes is laid on a desk, and what it needs is taken from there, the
-/// last first. A row that begins with `#` clears the desk, and one that begins with `-` is a remark. Fails for want of memory.
+/// last first. A row that begins with `#` clears the desk, and one that begins with `-` is a remark. Fails when out of memory.
 pub fn wrong_row(alloc: Global, rows: &str) -> Made<String> {
     let mut parts = Parts::new(alloc);
     let mut known = Known::new(alloc);

@@ -67,7 +67,7 @@ fn asked(alloc: Global, policy: &Policy, variable: &str) -> Made<Expr> {
     }
 }
 
-// What refusals for want of memory say, of a static policy, a set, a link and a store.
+// What refusals when out of memory say, of a static policy, a set, a link and a store.
 fn texts(alloc: Global, said: &mut String) -> Made<()> {
     show(alloc, said, &UnexpectedSlotError::OutOfMemory)?;
     show(alloc, said, &PolicySetError::OutOfMemory)?;

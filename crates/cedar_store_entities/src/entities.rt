@@ -77,7 +77,7 @@ impl Entities {
         }
     }
 
-    /// The whole store of these entities. Refuses a uid that stands twice, and answers want of memory.
+    /// The whole store of these entities. Refuses a uid that stands twice, and fails when out of memory.
     pub fn from_entities(alloc: Global, entities: Vec<Entity>) -> Result<Entities, EntitiesError>
         ensures made { IfOk result (λ s. store_of whole (map entity_pair entities.items) ≡ Some (store_seen s)) }
         ensures kept { IfOk result (λ s. store_made s ≡ map kept_pair entities.items) }
@@ -108,7 +108,7 @@ impl Entities {
     }
 
     /// Records that there is no entity of this uid: a partial store then answers so, and a whole one as before. Refuses a uid whose
-    /// absence is recorded already (1) and one that is in the store (2), and answers out of memory (0); the store is then as before.
+    /// absence is recorded already (1) and one that is in the store (2), and fails when out of memory (0); the store is then as before.
     pub fn add_absent(&mut self, uid: EntityUID) -> Result<(), AbsenceError>
         ensures recorded { OnOk result (store_seen self.new ≡ with_absence (store_seen self.old) (uid_of uid)) }
         ensures kept { store_made self.new ≡ store_made self.old }
@@ -127,7 +127,7 @@ impl Entities {
     }
 
     /// What the store answers for a uid: the entity; or, where it has none, that there is none if the store is whole or the absence is
-    /// recorded, and else what stands for it. Answers out of memory.
+    /// recorded, and else what stands for it. Fails only when out of memory.
     pub fn entity(
         &self,
         alloc: Global,

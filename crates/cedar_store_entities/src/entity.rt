@@ -61,7 +61,7 @@ impl Clone for Entity {
 
 impl Entity {
     /// The entity of this uid with these attributes and tags, of a repeated name the last, and with these recorded ancestors,
-    /// each once; what is given as both is a parent. Each value keeps its place. Answers want of memory.
+    /// each once; what is given as both is a parent. Each value keeps its place. Fails only when out of memory.
     pub fn new(
         alloc: Global,
         uid: EntityUID,
@@ -231,7 +231,7 @@ impl Entity {
         }
     }
 
-    /// Records the uid as a parent, and nothing else: an ancestor more, unless it is recorded. Answers want of memory.
+    /// Records the uid as a parent, and nothing else: an ancestor more, unless it is recorded. Fails only when out of memory.
     pub fn add_parent(&mut self, uid: EntityUID) -> Result<(), AllocError>
         ensures added { OnOk result (entity_seen self.new ≡ record (entity_seen self.old) { ancestors = recorded (entity_seen self.old).ancestors (uid_of uid) }) }
         ensures kin { OnOk result (kin_seen self.new ≡ with_parent (kin_seen self.old) (uid_of uid)) }
@@ -244,7 +244,7 @@ impl Entity {
         record_parent(&mut self.ancestors, uid)
     }
 
-    /// Records the uid as an ancestor that is no parent, unless it is recorded, and nothing else. Answers want of memory.
+    /// Records the uid as an ancestor that is no parent, unless it is recorded, and nothing else. Fails only when out of memory.
     pub fn add_indirect_ancestor(&mut self, uid: EntityUID) -> Result<(), AllocError>
         ensures added { OnOk result (entity_seen self.new ≡ record (entity_seen self.old) { ancestors = recorded (entity_seen self.old).ancestors (uid_of uid) }) }
         ensures kin { OnOk result (kin_seen self.new ≡ with_indirect (kin_seen self.old) (uid_of uid)) }

@@ -47,7 +47,7 @@ impl Annotations {
         Annotations(BTreeMap::new(alloc))
     }
 
-    /// Puts one more annotation under a name; one that stood there goes. Answers want of memory.
+    /// Puts one more annotation under a name; one that stood there goes. Fails only when out of memory.
     pub fn insert(&mut self, name: AnyId, annotation: Annotation) -> Result<(), AllocError>
         ensures put { OnOk result (annotations_of self.new ≡ insert_entry text_cmp (annotations_of self.old) (any_id_text name) (annotation_text annotation)) }
         ensures unchanged { OnErr result (annotations_of self.new ≡ annotations_of self.old) }

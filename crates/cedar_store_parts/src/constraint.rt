@@ -105,7 +105,7 @@ pub enum PrincipalOrResourceConstraint {
 }
 
 impl PrincipalOrResourceConstraint {
-    /// What the constraint asks, as an expression. Answers want of memory.
+    /// What the constraint asks, as an expression. Fails only when out of memory.
     pub fn as_expr(&self, alloc: Global, part: PrincipalOrResource) -> Result<Expr, AllocError>
         ensures { IfOk result (λ e. tree_of e ≡ scope_tree (part_var part) (part_slot part) (scope_of self.now)) }
     {
@@ -248,7 +248,7 @@ impl ActionConstraint {
         ActionConstraint::Any
     }
 
-    /// What the constraint asks, as an expression. Answers want of memory.
+    /// What the constraint asks, as an expression. Fails only when out of memory.
     pub fn as_expr(&self, alloc: Global) -> Result<Expr, AllocError>
         ensures { IfOk result (λ e. tree_of e ≡ action_tree (action_scope_of self.now)) }
     {

@@ -1,6 +1,6 @@
 //! What policies are made of (ids, effects, annotations, parts of scopes, bindings of slots), why they are refused, and validation's records.
 //! Contract: each maker makes the part of the model and each getter gives it back; `as_expr` is what a part of a scope asks; `number` is the
-//! number of a fault in the rules, 0 for want of memory; order, equality and hash of the records agree.
+//! number of a fault in the rules, 0 when out of memory; order, equality and hash of the records agree.
 //! Used by policies, joins of types (`ValidationMode`), built schemas (`RequestType`), the plain evaluator and the gate.
 #![tactic(auto)]
 

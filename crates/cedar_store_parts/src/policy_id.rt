@@ -22,7 +22,7 @@ impl Drop for PolicyID {
 }
 
 impl PolicyID {
-    /// The id of a copy of this text. Answers want of memory.
+    /// The id of a copy of this text. Fails only when out of memory.
     pub fn from_string(alloc: Global, text: &str) -> Result<PolicyID, AllocError>
         ensures { IfOk result (λ id. id_text id ≡ text.now) }
     {

@@ -16,12 +16,12 @@ use Rattle.cedar_store_parts.specs.declared.err.PolicySetError.TheVariants as ad
 use Rattle.cedar_store_parts.specs.declared.err.LinkingError.{LinkingError}
 use Rattle.cedar_store_parts.specs.declared.err.LinkingError.TheVariants as linking
 
--- The fault is there where a policy or a template of this id is added. Want of memory says nothing.
+-- The fault is there where a policy or a template of this id is added. Out of memory says nothing.
 abbrev pub RefusesId : model.PolicySet → Text → PolicySetError → Type 0
 RefusesId s id adding.OutOfMemory = Unit {0}
 RefusesId s id (adding.Occupied i) = (is_taken id s ≡ true) × (id_text i ≡ id)
 
--- The fault is there where policies of these ids make a set: it tells the first id that stands twice. Want of memory says nothing.
+-- The fault is there where policies of these ids make a set: it tells the first id that stands twice. Out of memory says nothing.
 abbrev pub RefusesIds : List Text → PolicySetError → Type 0
 RefusesIds ids adding.OutOfMemory = Unit {0}
 RefusesIds ids (adding.Occupied i) = repeated bytes_eq ids ≡ Some (id_text i)
@@ -39,7 +39,7 @@ RefusesBindings t b (linking.UnboundSlot x) = (has_slot t (slot_of x) && is_none
 RefusesBindings t b (linking.ExtraSlot x) = (not (has_slot t (slot_of x)) && is_some (binding_of b (slot_of x))) ≡ true
 RefusesBindings t b (linking.NoSuchTemplate id) = ⊥
 
--- The fault is there where a template of the set is linked, and, of a slot, at this one. Want of memory says nothing.
+-- The fault is there where a template of the set is linked, and, of a slot, at this one. Out of memory says nothing.
 abbrev pub RefusesLink : model.PolicySet → Text → Text → SlotBindings → LinkingError → Type 0
 RefusesLink s template id b linking.OutOfMemory = Unit {0}
 RefusesLink s template id b (linking.PolicyIdConflict i) = (has_link_fault s template id b id_present ≡ true) × (id_text i ≡ id)

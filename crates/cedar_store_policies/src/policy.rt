@@ -59,7 +59,7 @@ impl Policy {
         }
     }
 
-    /// The policy of a policy without slots. Answers want of memory.
+    /// The policy of a policy without slots. Fails only when out of memory.
     pub fn from_static_policy(alloc: Global, policy: StaticPolicy) -> Result<Policy, AllocError>
         ensures policy { IfOk result (λ p. policy_of p ≡ static_of policy) }
         ensures template { IfOk result (λ p. template_behind p ≡ static_of policy) }
@@ -71,7 +71,7 @@ impl Policy {
         Ok(Policy::new(template, None, SlotEnv::new()))
     }
 
-    /// A policy for any request, with this body, at a place. Answers want of memory.
+    /// A policy for any request, with this body, at a place. Fails only when out of memory.
     pub fn from_when_clause(
         alloc: Global,
         effect: Effect,
@@ -109,7 +109,7 @@ impl Policy {
         Policy::from_when_clause_annos(alloc, effect, when, id, loc, annotations)
     }
 
-    /// A policy for any request, with this body and these annotations, which are shared, at a place. Answers want of memory.
+    /// A policy for any request, with this body and these annotations, which are shared, at a place. Fails only when out of memory.
     pub fn from_when_clause_annos(
         alloc: Global,
         effect: Effect,
@@ -222,7 +222,7 @@ impl Policy {
         self.template.annotations_arc()
     }
 
-    /// What the scope asks of the principal, with what its slot is bound to in the slot's place. Answers want of memory.
+    /// What the scope asks of the principal, with what its slot is bound to in the slot's place. Fails only when out of memory.
     pub fn principal_constraint(&self) -> Result<PrincipalConstraint, AllocError>
         ensures scope { IfOk result (λ c. scope_of c.constraint ≡ filled (policy_of self.now).bindings.principal (policy_of self.now).principal) }
         ensures places { IfOk result (λ c. scope_places c.constraint ≡ places_left (policy_of self.now).bindings.principal (policy_places self.now).principal) }
@@ -243,7 +243,7 @@ impl Policy {
         self.template.action_constraint()
     }
 
-    /// What the scope asks of the resource, with what its slot is bound to in the slot's place. Answers want of memory.
+    /// What the scope asks of the resource, with what its slot is bound to in the slot's place. Fails only when out of memory.
     pub fn resource_constraint(&self) -> Result<ResourceConstraint, AllocError>
         ensures scope { IfOk result (λ c. scope_of c.constraint ≡ filled (policy_of self.now).bindings.resource (policy_of self.now).resource) }
         ensures places { IfOk result (λ c. scope_places c.constraint ≡ places_left (policy_of self.now).bindings.resource (policy_places self.now).resource) }

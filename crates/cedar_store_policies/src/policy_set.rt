@@ -58,7 +58,7 @@ impl PolicySet {
         }
     }
 
-    /// The set of these policies, in this order. Refuses an id that stands twice, and answers want of memory.
+    /// The set of these policies, in this order. Refuses an id that stands twice, and fails when out of memory.
     pub fn try_from_iter(alloc: Global, policies: Vec<Policy>) -> Result<PolicySet, PolicySetError>
         ensures made { IfOk result (λ s. set_of s ≡ record { templates = []; policies = map policy_of policies.items }) }
         ensures distinct { IfOk result (λ s. has_distinct_ids (set_of s) ≡ true) }
@@ -72,7 +72,7 @@ impl PolicySet {
         Ok(set)
     }
 
-    /// Puts a policy at the end. Refuses an id that is present, and answers want of memory.
+    /// Puts a policy at the end. Refuses an id that is present, and fails when out of memory.
     pub fn add(&mut self, policy: Policy) -> Result<(), PolicySetError>
         ensures added { OnOk result (add_policy (set_of self.old) (policy_of policy) ≡ Some (set_of self.new)) }
         ensures unchanged { OnErr result (set_of self.new ≡ set_of self.old) }
@@ -85,7 +85,7 @@ impl PolicySet {
         Ok(())
     }
 
-    /// Puts a policy without slots at the end. Refuses an id that is present, and answers want of memory.
+    /// Puts a policy without slots at the end. Refuses an id that is present, and fails when out of memory.
     pub fn add_static(&mut self, policy: StaticPolicy) -> Result<(), PolicySetError>
         ensures added { OnOk result (add_policy (set_of self.old) (static_of policy) ≡ Some (set_of self.new)) }
         ensures unchanged { OnErr result (set_of self.new ≡ set_of self.old) }
@@ -97,7 +97,7 @@ impl PolicySet {
         self.add(policy)
     }
 
-    /// Puts a template at the end of the templates. Refuses an id that is present, and answers want of memory.
+    /// Puts a template at the end of the templates. Refuses an id that is present, and fails when out of memory.
     pub fn add_template(&mut self, template: Template) -> Result<(), PolicySetError>
         ensures added { OnOk result (add_template (set_of self.old) (template_of template) ≡ Some (set_of self.new)) }
         ensures unchanged { OnErr result (set_of self.new ≡ set_of self.old) }
@@ -123,8 +123,8 @@ impl PolicySet {
     }
 
     /// Puts the policy of a template at the end, under a new id and with these bindings. Refuses an id that is present, a slot
-    /// of the template that isn't bound, a bound slot that isn't the template's, and an id that no template has, and answers
-    /// want of memory.
+    /// of the template that isn't bound, a bound slot that isn't the template's, and an id that no template has, and fails
+    /// when out of memory.
     pub fn link(
         &mut self,
         template_id: &PolicyID,

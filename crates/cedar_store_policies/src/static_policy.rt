@@ -36,7 +36,7 @@ impl StaticPolicy {
     ghost use Rattle.cedar_store_policies.specs.Templates.{template_loc, places_of};
     ghost use Rattle.cedar_store_policies.specs.Refusals.{RefusesSlot, RefusesSlotAt};
 
-    /// The policy of these parts, at a place. Refuses a slot in the scope or the body, and answers want of memory.
+    /// The policy of these parts, at a place. Refuses a slot in the scope or the body, and fails when out of memory.
     pub fn new(
         alloc: Global,
         id: PolicyID,

@@ -55,7 +55,7 @@ impl Template {
     ghost use Rattle.cedar_store_policies.specs.Templates.{template_of, template_loc, places_of};
     ghost use Rattle.cedar_store_policies.specs.Lists.{first_of};
 
-    /// The template of these parts, at a place. Answers want of memory.
+    /// The template of these parts, at a place. Fails only when out of memory.
     pub fn new(
         alloc: Global,
         id: PolicyID,
@@ -89,7 +89,7 @@ impl Template {
         )
     }
 
-    /// The template of these parts, at a place; annotations and body are shared. Answers want of memory.
+    /// The template of these parts, at a place; annotations and body are shared. Fails only when out of memory.
     pub fn new_shared(
         alloc: Global,
         id: PolicyID,

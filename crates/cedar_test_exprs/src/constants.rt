@@ -36,7 +36,7 @@ pub fn binary(word: &str) -> Option<BinaryOp> {
     }
 }
 
-/// The literal that the word writes: `true`, `-5`, `"text`, `User::a`. Fails where it writes none, and for want of memory.
+/// The literal that the word writes: `true`, `-5`, `"text`, `User::a`. Fails where it writes none, and when out of memory.
 pub fn literal(alloc: Global, text: &str) -> Result<Literal, AllocError> {
     if let Some(text) = text.strip_prefix("\"") {
         return Literal::from_str(alloc, text);
@@ -51,7 +51,7 @@ pub fn literal(alloc: Global, text: &str) -> Result<Literal, AllocError> {
     }
 }
 
-// The variable, slot, unknown or literal that the word writes. Fails where it writes none, and for want of memory.
+// The variable, slot, unknown or literal that the word writes. Fails where it writes none, and when out of memory.
 pub fn constant(alloc: Global, text: &str) -> Result<Expr, AllocError> {
     if let Some(named) = text.strip_prefix("$") {
         return Ok(Expr::unknown(unknown(alloc, named)?));

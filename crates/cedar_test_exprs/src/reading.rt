@@ -19,7 +19,7 @@ use std::alloc::{AllocError, Global};
 ///
 /// Behind a word may stand the place of what it makes: `1@4` is the number 1 at the place that begins and ends at 4.
 ///
-/// Fails where the text writes no expression, and for want of memory.
+/// Fails where the text writes no expression, and when out of memory.
 pub fn expr(alloc: Global, text: &str) -> Result<Expr, AllocError> {
     let mut made = Vec::new(alloc);
     for word in text.split(' ') {

@@ -7,7 +7,7 @@ use cedar_expr_trees::Expr;
 use std::alloc::{AllocError, Global};
 use std::rc::Rc;
 
-/// Says where a place begins, as `@4`; where there is none, `@nowhere`. Fails only for want of memory.
+/// Says where a place begins, as `@4`; where there is none, `@nowhere`. Fails only when out of memory.
 pub fn at(alloc: Global, said: &mut String, place: Option<Loc>) -> Result<(), AllocError> {
     match place {
         None => say(said, "@nowhere"),
@@ -18,7 +18,7 @@ pub fn at(alloc: Global, said: &mut String, place: Option<Loc>) -> Result<(), Al
     }
 }
 
-/// The expression that the text writes, shared. Fails where it writes none, and for want of memory.
+/// The expression that the text writes, shared. Fails where it writes none, and when out of memory.
 pub fn read(alloc: Global, text: &str) -> Result<Rc<Expr>, AllocError> {
     kept(alloc, expr(alloc, text))
 }
@@ -36,7 +36,7 @@ fn stand_alike(alloc: Global, e: &Expr, other: &Expr) -> Result<bool, AllocError
 }
 
 /// Says the wanted text, where what was made is the expression that it writes, with the same places. Fails where it wasn't made, where
-/// the text writes none, and for want of memory.
+/// the text writes none, and when out of memory.
 pub fn is<E: Drop>(
     alloc: Global,
     said: &mut String,

@@ -14,7 +14,7 @@ pub fn parted(row: &str) -> Option<(&str, &str, &str)> {
     Some((verb, rest, wanted))
 }
 
-/// Says a text, behind a space where something stands before it; of the empty one `nothing`. Fails only for want of memory.
+/// Says a text, behind a space where something stands before it; of the empty one `nothing`. Fails only when out of memory.
 pub fn say(said: &mut String, text: &str) -> Result<(), AllocError> {
     if !said.is_empty() {
         said.push(' ')?;
@@ -22,18 +22,18 @@ pub fn say(said: &mut String, text: &str) -> Result<(), AllocError> {
     said.push_str(if text.is_empty() { "nothing" } else { text })
 }
 
-/// Says whether it is so. Fails only for want of memory.
+/// Says whether it is so. Fails only when out of memory.
 pub fn tell(said: &mut String, is_so: bool) -> Result<(), AllocError> {
     say(said, if is_so { "yes" } else { "no" })
 }
 
-/// Says how this is shown. Fails for want of memory.
+/// Says how this is shown. Fails when out of memory.
 pub fn show<T: Display>(alloc: Global, said: &mut String, it: &T) -> Result<(), AllocError> {
     let text = it.to_string(alloc)?;
     say(said, text.as_str())
 }
 
-/// Says how what was made is shown, or how the refusal is. Fails for want of memory.
+/// Says how what was made is shown, or how the refusal is. Fails when out of memory.
 pub fn told<T: Display + Drop, E: Display + Drop>(
     alloc: Global,
     said: &mut String,
@@ -45,7 +45,7 @@ pub fn told<T: Display + Drop, E: Display + Drop>(
     }
 }
 
-/// Says how a refusal is shown, and of what was made `done`. Fails for want of memory.
+/// Says how a refusal is shown, and of what was made `done`. Fails when out of memory.
 pub fn refused<T: Drop, E: Display + Drop>(
     alloc: Global,
     said: &mut String,
@@ -57,7 +57,7 @@ pub fn refused<T: Drop, E: Display + Drop>(
     }
 }
 
-/// Says how a copy is shown. Fails for want of memory.
+/// Says how a copy is shown. Fails when out of memory.
 pub fn copied<T: Clone + Display + Drop>(
     alloc: Global,
     said: &mut String,
@@ -66,7 +66,7 @@ pub fn copied<T: Clone + Display + Drop>(
     told(alloc, said, it.clone())
 }
 
-/// Says how a copy of what was made is shown. Fails where it wasn't made, and for want of memory.
+/// Says how a copy of what was made is shown. Fails where it wasn't made, and when out of memory.
 pub fn told_copy<T: Clone + Display + Drop, E: Drop>(
     alloc: Global,
     said: &mut String,

@@ -7,14 +7,14 @@ ghost use Rattle.std.specs.declared.result.Result.TheVariants.{Ok};
 use std::alloc::{AllocError, Global};
 use std::rc::Rc;
 
-/// The value, shared. Fails only for want of memory.
+/// The value, shared. Fails only when out of memory.
 pub fn shared<T: Drop>(alloc: Global, it: T) -> Result<Rc<T>, AllocError>
     ensures { IfOk result (λ r. r.value ≡ «it») }
 {
     Ok(Rc::new(alloc, it)?)
 }
 
-/// What was made, shared. Fails where it wasn't made, and for want of memory.
+/// What was made, shared. Fails where it wasn't made, and when out of memory.
 pub fn kept<T: Drop, E: Drop>(alloc: Global, made: Result<T, E>) -> Result<Rc<T>, AllocError>
     ensures { IfOk result (λ r. «made» ≡ Ok r.value) }
 {

@@ -15,7 +15,7 @@ type V = Value<ExtValue>;
 /// - `ext=decimal/"1.5/7`, an extension value of the type `decimal`, made by a call of `decimal` with the text `1.5`, with the byte 7
 ///   as its key
 ///
-/// Behind a word may stand the place of what it makes, as in `1@4`. Fails where the text writes no value, and for want of memory.
+/// Behind a word may stand the place of what it makes, as in `1@4`. Fails where the text writes no value, and when out of memory.
 pub fn value(alloc: Global, text: &str) -> Result<V, AllocError> {
     let mut made = Vec::new(alloc);
     for word in text.split(' ') {

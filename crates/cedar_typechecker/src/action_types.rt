@@ -26,7 +26,7 @@ pub struct ActionTypes {
 }
 
 impl ActionTypes {
-    /// The types of these actions. Answers want of memory.
+    /// The types of these actions. Fails only when out of memory.
     pub fn of_actions(
         alloc: Global,
         actions: Values<'_, EntityUID, ValidatorActionId>,
@@ -57,7 +57,7 @@ impl ActionTypes {
     }
 }
 
-// Puts the type of the action among the types. Answers want of memory.
+// Puts the type of the action among the types. Fails only when out of memory.
 fn add_type(types: &mut BTreeSet<EntityType>, action: &ValidatorActionId) -> Result<(), AllocError>
     ensures { OnOk result ((q : CodeType) → contains types_by types.new q ≡ (name_eq (type_name_of q) (action_seen action.now).uid.kind || contains types_by types.old q)) }
 {
@@ -66,7 +66,7 @@ fn add_type(types: &mut BTreeSet<EntityType>, action: &ValidatorActionId) -> Res
     Ok(())
 }
 
-// Puts the pair of the types of the action and of each that descends from it among the pairs. Answers want of memory.
+// Puts the pair of the types of the action and of each that descends from it among the pairs. Fails only when out of memory.
 fn add_pairs(
     pairs: &mut TypePairs,
     alloc: Global,

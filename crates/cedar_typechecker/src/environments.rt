@@ -17,7 +17,7 @@ use cedar_typechecker_environments::RequestEnv;
 use std::alloc::{AllocError, Global};
 use std::collections::btree_map::Values;
 
-// The environments of these actions, in their order: each with each of its types of principals and of resources. Answers want of memory.
+// The environments of these actions, in their order: each with each of its types of principals and of resources. Fails only when out of memory.
 pub(crate) fn environments_of(
     alloc: Global,
     actions: Values<'_, EntityUID, ValidatorActionId>,
@@ -31,7 +31,7 @@ pub(crate) fn environments_of(
     Ok(found)
 }
 
-// Puts the environments of the action behind those that were found. Answers want of memory.
+// Puts the environments of the action behind those that were found. Fails only when out of memory.
 fn add_environments(
     alloc: Global,
     found: &mut Vec<RequestEnv>,
@@ -80,7 +80,7 @@ fn add_environment(
     Ok(())
 }
 
-// The attributes of a record type, which are shared; none of any other. Answers want of memory.
+// The attributes of a record type, which are shared; none of any other. Fails only when out of memory.
 fn attributes_in(alloc: Global, ty: &Type) -> Result<Attributes, AllocError>
     ensures { IfOk result (λ as_. attributes_of as_ ≡ context_of (type_of ty.now)) }
 {

@@ -28,7 +28,7 @@ impl<'s, 't, 'e> SchemaAndFunctions<'s, 't, 'e> {
     ghost use Rattle.cedar_typechecker_model.specs.Seen.{schema_seen, IsClosed};
 
     /// The schema with the table. What the schema keeps has to be closed under descent: `laws` says that each schema that is built of
-    /// fragments is. Answers want of memory.
+    /// fragments is. Fails only when out of memory.
     pub fn new(
         alloc: Global,
         schema: &'s ValidatorSchema,

@@ -44,7 +44,7 @@ impl ScopeSchema for SchemaAndFunctions<'_, '_, '_> {
     }
 }
 
-// Copies of those of these entity types that aren't this one. Answers want of memory.
+// Copies of those of these entity types that aren't this one. Fails only when out of memory.
 fn others_of(
     alloc: Global,
     types: Ancestors<'_>,

@@ -36,7 +36,7 @@ impl TypePairs {
         }
     }
 
-    /// Puts the pair of these among them. Answers want of memory, and then there are the pairs that there were.
+    /// Puts the pair of these among them. Fails only when out of memory, and then there are the pairs that there were.
     pub fn insert(
         &mut self,
         alloc: Global,

@@ -56,7 +56,7 @@ impl<'s, 't, 'e> Typechecker<'s, 't, 'e> {
     }
 
     /// Whether the policy passes: its condition is True, False or Bool in each of its environments. What is wrong with one that doesn't
-    /// pass is put to the errors. Where the condition is False in each environment a warning is put to the warnings. Want of memory leaves
+    /// pass is put to the errors. Where the condition is False in each environment a warning is put to the warnings. Out of memory leaves
     /// both sets as they were. One that passes in the strict mode means a truth value in every conforming request and store, or errs by a
     /// missing entity, an overflow, a zero divisor or a failed extension function.
     pub fn typecheck_policy(
@@ -75,7 +75,7 @@ impl<'s, 't, 'e> Typechecker<'s, 't, 'e> {
         typecheck_policy(self.alloc, &self.asked, self.mode, t, type_errors, warnings)
     }
 
-    /// The checks of the policy in its environments, one after the other, in any order. Each is made when it is asked for. Want of memory
+    /// The checks of the policy in its environments, one after the other, in any order. Each is made when it is asked for. Out of memory
     /// is an item of its own, and the last one.
     pub fn typecheck_by_request_env<'b>(
         &'b self,

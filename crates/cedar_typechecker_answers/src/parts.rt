@@ -5,7 +5,7 @@ ghost use Rattle.std.specs.Prelude.{◌≡◌, IfOk};
 use std::alloc::{AllocError, Global};
 use std::rc::Rc;
 
-/// Both, each shared. It is over any type, so that its proof needn't know how an expression is dropped. Fails for want of memory.
+/// Both, each shared. It is over any type, so that its proof needn't know how an expression is dropped. Fails when out of memory.
 pub fn shared_two<T: Drop>(alloc: Global, a: T, b: T) -> Result<(Rc<T>, Rc<T>), AllocError>
     ensures { IfOk result (λ r. (r.0.value ≡ «a») × (r.1.value ≡ «b»)) }
 {
@@ -14,7 +14,7 @@ pub fn shared_two<T: Drop>(alloc: Global, a: T, b: T) -> Result<(Rc<T>, Rc<T>), 
     Ok((a, b))
 }
 
-/// The three, each shared. Fails for want of memory.
+/// The three, each shared. Fails when out of memory.
 pub fn shared_three<T: Drop>(
     alloc: Global,
     a: T,

@@ -27,7 +27,7 @@ fn schema_of(
     Ok(schema)
 }
 
-// The fragment of these lines, as `cedar_schema_examples` reads them. Fails where they are no fragment, and for want of memory.
+// The fragment of these lines, as `cedar_schema_examples` reads them. Fails where they are no fragment, and when out of memory.
 fn written(
     alloc: Global,
     lines: &str,
@@ -36,7 +36,7 @@ fn written(
     ValidatorSchemaFragment::from_schema_fragment(alloc, fragment)
 }
 
-/// The schema of these lines. Fails where they declare none, and for want of memory.
+/// The schema of these lines. Fails where they declare none, and when out of memory.
 pub(crate) fn built(
     alloc: Global,
     lines: &str,

@@ -277,7 +277,7 @@ fn wrong_of(alloc: Global, lines: &str, rows: &str) -> Result<String, SchemaErro
     Ok(wrong?)
 }
 
-/// The first row on expressions and policies that says something else, with what it says; nothing where all hold. Fails for want of memory.
+/// The first row on expressions and policies that says something else, with what it says; nothing where all hold. Fails when out of memory.
 pub fn wrong_row(alloc: Global) -> Result<String, AllocError> {
     for (lines, rows) in [(LINES, ROWS), ("", OF_NOTHING)] {
         let wrong = made(wrong_of(alloc, lines, rows))?;

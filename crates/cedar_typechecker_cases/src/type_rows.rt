@@ -140,7 +140,7 @@ asked {a: Bool, r: rank} | 1 call=other/0 record=a,r : no
 asked {..} | call=other/0 record=r : yes
 "#;
 
-/// The first row on types that says something else, with what it says; nothing where all hold. Fails for want of memory.
+/// The first row on types that says something else, with what it says; nothing where all hold. Fails when out of memory.
 pub fn wrong_type_row(alloc: Global) -> Result<String, AllocError> {
     for row in ROWS.lines() {
         if let Some((verb, rest, wanted)) = parted(row) {

@@ -43,7 +43,7 @@ module _ {S : Type 0} (schema : S → Schema) (table : S → Table) where
   abbrev pub ChecksTheSame : RequestEnvChecks S → RequestEnvChecks S → Type 0
   ChecksTheSame i j = (schema j.schema.now ≡ schema i.schema.now) × (table j.schema.now ≡ table i.schema.now) × (j.mode ≡ i.mode) × (template_of j.template.now ≡ template_of i.template.now)
 
-  -- One of the environments that are left, with its check; or want of memory, after which none is left.
+  -- One of the environments that are left, with its check; or out of memory, after which none is left.
   abbrev pub Item : Type 0
   Item = Result (RequestEnv × PolicyCheck) AllocError
 

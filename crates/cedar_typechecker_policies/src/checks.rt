@@ -10,7 +10,7 @@ use cedar_typechecker_scopes::{SchemaEnvironments, policy_environments};
 use std::alloc::{AllocError, Global};
 use std::iter::Iterator;
 
-/// The checks of a policy in its environments, one after the other, in any order. Each is made when it is asked for. Want of memory is an
+/// The checks of a policy in its environments, one after the other, in any order. Each is made when it is asked for. Out of memory is an
 /// item of its own, and the last one.
 #[derive(Drop)]
 pub struct RequestEnvChecks<'b, S> {

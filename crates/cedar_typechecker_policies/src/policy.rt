@@ -70,7 +70,7 @@ fn put_findings(
 }
 
 /// Whether the policy passes in a mode: its condition is True, False or Bool in each of its environments. What is wrong with one that
-/// doesn't pass is put to the errors. Where the condition is False in each environment a warning is put to the warnings. Want of memory
+/// doesn't pass is put to the errors. Where the condition is False in each environment a warning is put to the warnings. Out of memory
 /// leaves both sets as they were. One that passes in the strict mode means a truth value in every conforming request and store, or errs
 /// as expected.
 pub fn typecheck_policy<S: SchemaEnvironments>(

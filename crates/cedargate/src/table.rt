@@ -18,7 +18,7 @@ use cedar_expr_functions::{CallStyle, Extension, ExtensionFunction, Extensions, 
 use cedar_expr_values::Type;
 use std::alloc::{AllocError, Global};
 
-/// The function `rank`, which makes ranks of texts. What is stored comes to what `rank` answers. Fails only out of memory.
+/// The function `rank`, which makes ranks of texts. What is stored comes to what `rank` answers. Fails only when out of memory.
 pub fn rank_function(alloc: Global, func: Func) -> Result<ExtensionFunction, AllocError>
     requires callable { (a : _) (xs : _) → pre func a xs }
     requires answers { (a : _) (xs : _) (r : _) → post func a xs r → ComesTo (ranked (made_values xs.now)) r }
@@ -37,8 +37,8 @@ pub fn rank_function(alloc: Global, func: Func) -> Result<ExtensionFunction, All
     )
 }
 
-/// The function `label`, a method of ranks, which gives their texts. What is stored comes to what `label` answers. Answers want of
-/// memory.
+/// The function `label`, a method of ranks, which gives their texts. What is stored comes to what `label` answers. Fails only when
+/// out of memory.
 pub fn label_function(alloc: Global, func: Func) -> Result<ExtensionFunction, AllocError>
     requires callable { (a : _) (xs : _) → pre func a xs }
     requires answers { (a : _) (xs : _) (r : _) → post func a xs r → ComesTo (labelled (made_values xs.now)) r }
@@ -65,7 +65,7 @@ fn rank_type(alloc: Global) -> Result<Type, AllocError>
     Ok(Type::Extension { name })
 }
 
-/// The extension of these two functions, in which ranks are ordered. Fails only out of memory.
+/// The extension of these two functions, in which ranks are ordered. Fails only when out of memory.
 pub fn ranks(
     alloc: Global,
     rank: ExtensionFunction,
@@ -83,7 +83,7 @@ pub fn ranks(
     Ok(Extension::new(name(alloc, "rank")?, functions, ordered))
 }
 
-/// The table of the extension, which has these two functions. Fails only out of memory.
+/// The table of the extension, which has these two functions. Fails only when out of memory.
 pub fn table_of<'a>(alloc: Global, extension: &'a Extension) -> Result<Extensions<'a>, AllocError>
     requires functions { AreRankFunctions (functions_in extension.now) }
     requires ordered { ordered_in extension.now ≡ rank_name ∷ [] }

@@ -13,7 +13,7 @@ use std::alloc::{AllocError, Global};
 use std::collections::HashSet;
 use std::hash::{DefaultHasher, Hash};
 
-// The literals that these values are, hashed, where each is one. Answers out of memory.
+// The literals that these values are, hashed, where each is one. Fails only when out of memory.
 pub(super) fn hashed<X: ExtensionValue>(
     alloc: Global,
     values: &[Value<X>],
@@ -39,7 +39,7 @@ fn are_literals<X: ExtensionValue>(values: &[Value<X>]) -> bool
     true
 }
 
-// The literals among these values, hashed. Answers out of memory.
+// The literals among these values, hashed. Fails only when out of memory.
 fn literals_among<X: ExtensionValue>(
     alloc: Global,
     values: &[Value<X>],

@@ -13,7 +13,7 @@ impl<X: ExtensionValue> ValueKind<X> {
     ghost use Rattle.cedar_expr_values.specs.Values.{bare_kind};
     ghost use Rattle.cedar_expr_values.specs.Uids.{has_uid, holds_uid};
 
-    /// The uids that stand in it as literals. Answers out of memory.
+    /// The uids that stand in it as literals. Fails only when out of memory.
     pub fn all_literal_uids(&self, alloc: Global) -> Result<BTreeSet<EntityUID>, AllocError>
         ensures { IfOk result (λ s. (u : Uid) → has_uid s u ≡ holds_uid (bare_kind X.seen self.now) u) }
     {
@@ -54,7 +54,7 @@ impl<X: ExtensionValue> Value<X> {
     ghost use Rattle.cedar_expr_values.specs.Values.{bare};
     ghost use Rattle.cedar_expr_values.specs.Uids.{has_uid, holds_uid};
 
-    /// The uids that stand in it as literals. Answers out of memory.
+    /// The uids that stand in it as literals. Fails only when out of memory.
     pub fn all_literal_uids(&self, alloc: Global) -> Result<BTreeSet<EntityUID>, AllocError>
         ensures { IfOk result (λ s. (u : Uid) → has_uid s u ≡ holds_uid (bare X.seen self.now) u) }
     {
