@@ -18,7 +18,8 @@ use Rattle.cedar_store_model.specs.Store.{Extent, whole, partial, Store, found_a
 use Rattle.cedar_store_entities.specs.Views.{entity_uid, entity_of, entity_pair, entity_kept, kept_pair}
 use Rattle.cedar_store_entities.specs.StoreParts.{keys_in, uids_in, entities_in, kept_in}
 use Rattle.cedar_store_entities.specs.declared.entity.Entity.{Entity}
-use Rattle.cedar_store_entities.proofs.Uids.{same_uid, each_is_uid}
+use Rattle.cedar_expr_values.proofs.Ranged.{each_is_uid}
+use Rattle.cedar_store_entities.proofs.Uids.{same_uid}
 
 -- what stands under keys
 pub map_values : {A : Type 0} (see : Entity → A) (es : List (EntityUID × Entity)) → map see (map (λ e. e.1) es) ≡ map (λ e. see e.1) es

@@ -5,3 +5,4 @@ mod Kin
 mod Gathered
 mod Mapped
 mod Copies
+mod Ranged

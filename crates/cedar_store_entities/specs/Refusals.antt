@@ -16,12 +16,12 @@ abbrev pub error_number : EntitiesError → ℕ
 error_number OutOfMemory = 0
 error_number (Duplicate u) = 1
 
--- The fault is there where an entity of this uid is put beside those of these. Want of memory says nothing.
+-- The fault is there where an entity of this uid is put beside those of these. Out of memory says nothing.
 abbrev pub RefusesUid : List Uid → Uid → EntitiesError → Type 0
 RefusesUid us u OutOfMemory = Unit {0}
 RefusesUid us u (Duplicate v) = (list_any (uid_eq u) us ≡ true) × (uid_of v ≡ u)
 
--- The fault is there in entities of these uids: the uid is the first that stands twice. Want of memory says nothing.
+-- The fault is there in entities of these uids: the uid is the first that stands twice. Out of memory says nothing.
 abbrev pub RefusesUids : List Uid → EntitiesError → Type 0
 RefusesUids us OutOfMemory = Unit {0}
 RefusesUids us (Duplicate u) = repeated uid_eq us ≡ Some (uid_of u)

@@ -1,0 +1,6 @@
+use Rattle.std.proofs.Common.{◌≡◌}
+use Rattle.cedar_store_entities.proofs.Ranged.{all_in_range}
+use Rattle.cedar_store_entities.proofs.laws.stores_are_in_range.Given as goal
+
+abbrev pub invariant-loop-entity : goal.invariant-loop-entity
+invariant-loop-entity l = all_in_range l.initial.entity-iterator ≡ all_in_range l.entity-iterator
