@@ -31,11 +31,14 @@ use cedar_evaluator_core::Evaluator;
 use cedar_evaluator_operators::FunctionTable;
 use cedar_evaluator_reads::V;
 use cedar_evaluator_requests::{Request, Response};
+use cedar_expr_functions::Extensions;
 use cedar_store_entities::Entities;
 use cedar_store_policies::PolicySet;
 use cedar_store_policies::laws::ids_are_distinct;
 use std::alloc::{AllocError, Global};
 use std::collections::HashMap;
+use std::fmt;
+use std::fmt::{Debug, Formatter, Write};
 use std::rc::{Rc, RcStr};
 
 /// Answers requests by policies, over a table of extension functions, within a limit on the depth of expressions.
@@ -53,6 +56,22 @@ impl<T> Clone for Authorizer<'_, T> {
             table: self.table,
             limit: self.limit,
         })
+    }
+}
+
+impl Debug for Authorizer<'_, Extensions<'_>> {
+    fn fmt<W: Write>(&self, f: &mut Formatter<W>) -> fmt::Result {
+        let mut names = self.table.ext_names();
+        match names.next() {
+            None => f.write_str("<Authorizer with no extensions>"),
+            Some(first) => {
+                write!(f, "<Authorizer with the following extensions: [{first}")?;
+                for name in names {
+                    write!(f, ", {name}")?;
+                }
+                f.write_str("]>")
+            }
+        }
     }
 }
 

@@ -34,6 +34,8 @@ use cedar_store_policies::Policy;
 use either::Either;
 use std::alloc::Global;
 use std::collections::HashMap;
+use std::fmt;
+use std::fmt::{Debug, Formatter, Write};
 use std::rc::RcStr;
 
 /// Evaluates expressions and policies of a request over a store of entities and a table of extension functions, within a limit on their
@@ -45,6 +47,18 @@ pub struct Evaluator<'a, T> {
     entities: &'a Entities,
     table: &'a T,
     limit: u32,
+}
+
+impl<T> Debug for Evaluator<'_, T> {
+    fn fmt<W: Write>(&self, f: &mut Formatter<W>) -> fmt::Result {
+        write!(
+            f,
+            "<Evaluator with principal = {:?}, action = {:?}, resource = {:?}>",
+            self.request.principal(),
+            self.request.action(),
+            self.request.resource()
+        )
+    }
 }
 
 impl<'a, T: FunctionTable> Evaluator<'a, T> {

@@ -6,6 +6,7 @@ ghost use Rattle.cedar_expr_values.specs.Types.{core_of};
 ghost use Rattle.cedar_expr_functions.specs.Styles.{style_of};
 ghost use Rattle.cedar_expr_functions.specs.Signatures.{signature, bare_values, after_one, first_mistyped, core_pair, is_one_text, is_text, extension_type};
 ghost use Rattle.cedar_expr_functions.specs.Answers.{IsStored};
+ghost use Rattle.cedar_expr_functions.specs.declared.extension.ExtensionOutputValue.TheVariants.{Known};
 
 use crate::err::CallFault;
 use cedar_expr_names::Name;
@@ -30,6 +31,14 @@ pub enum ExtensionOutputValue {
     Known(Value<ExtValue>),
     /// An unknown.
     Unknown(Unknown),
+}
+
+impl From<Value<ExtValue>> for ExtensionOutputValue {
+    ghost from_gives = { λ v out. out ≡ Known v };
+
+    fn from(value: Value<ExtValue>) -> ExtensionOutputValue {
+        ExtensionOutputValue::Known(value)
+    }
 }
 
 /// The function that is stored: it takes the allocator and the arguments.

@@ -15,6 +15,8 @@ use crate::extension::{Extension, ExtensionFunction};
 use crate::gathered::{all_functions, all_names, all_ordered, by_name, refuse_two_constructors};
 use cedar_expr_names::Name;
 use std::alloc::{AllocError, Global};
+use std::fmt;
+use std::fmt::{Debug, Formatter, Write};
 use std::slice::Iter;
 
 /// A table of extension functions, in the order of their names. It borrows the extensions that it is made of.
@@ -33,6 +35,12 @@ impl<'a> Drop for Extensions<'a> {
             functions: _,
             ordered: _,
         } = self;
+    }
+}
+
+impl Debug for Extensions<'_> {
+    fn fmt<W: Write>(&self, f: &mut Formatter<W>) -> fmt::Result {
+        write!(f, "<Extensions with {} functions>", self.functions.len())
     }
 }
 

@@ -14,7 +14,7 @@ ghost use Rattle.cedar_store_parts.specs.declared.constraint.PrincipalOrResource
 ghost use Rattle.cedar_store_parts.specs.declared.err.UnexpectedSlotError.TheVariants.{OutOfMemory, FoundSlot};
 
 use cedar_expr_leaves::Slot;
-pub use cedar_store_entities::laws::{stores_are_maps, uids_are_uids};
+pub use cedar_store_entities::laws::{stores_are_in_range, stores_are_maps, uids_are_uids};
 pub use cedar_store_parts::laws::{
     annotations_are_compared, bindings_are_compared, policy_ids_agree, references_are_compared,
     scopes_are_compared, sets_of_annotations_are_compared,
