@@ -10,18 +10,10 @@ pub enum Infallible {}
 pub trait IsInfallible: Drop {
     /// There is no value.
     ghost no_value: { Self → ⊥ };
-
-    /// The same error as one that never comes. Since there is none, the call never ends.
-    fn never_returns(self) -> Infallible
-        ensures { ⊥ };
 }
 
 impl IsInfallible for Infallible {
     ghost no_value = { λ e. elim e [ ] };
-
-    fn never_returns(self) -> Infallible {
-        self
-    }
 }
 
 /// What unwraps without fail.
@@ -40,7 +32,7 @@ impl<A, B: IsInfallible> UnwrapInfallible<A> for Result<A, B> {
     fn unwrap_infallible(self) -> A {
         match self {
             Ok(value) => value,
-            Err(error) => match error.never_returns() {},
+            Err(_) => unreachable!(),
         }
     }
 }
