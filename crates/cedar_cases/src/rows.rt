@@ -63,9 +63,3 @@ fn responses(rt: HostRuntime) -> Result<(), Fail> {
     );
     Ok(())
 }
-
-#[test]
-fn sessions(rt: HostRuntime) -> Result<(), Fail> {
-    assert_eq!(rt; crate::session_rows::wrong_row(rt.alloc())?.as_str(), "");
-    Ok(())
-}

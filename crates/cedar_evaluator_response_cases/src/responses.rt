@@ -6,15 +6,15 @@ use crate::said::{put, top};
 use crate::verdicts;
 use cedar_evaluator::{Authorizer, ConcretizationError, ReauthorizationError};
 use cedar_evaluator_requests::{Decision, Response};
-use cedar_expr_functions::Extensions;
-use cedar_test_exprs::{both, kept, one, say, show};
+use cedar_expr_functions::{Extension, Extensions};
+use cedar_test_exprs::{both, kept, made, name, one, say, show};
 use std::alloc::Global;
 use std::collections::HashMap;
 use std::rc::Rc;
 
 // Does the command, where it is one of these: `core`, the response to the policies; `answer`, their answer; `again`, the last
 // response reauthorized with the values at hand; `copy`, a copy of it; `concrete`, its answer, after which it is gone; `lacking memory`;
-// or one that `verdicts` does.
+// `shown a b`, an authorizer over the extensions of these names; or one that `verdicts` does.
 pub fn done(
     desk: &mut Desk,
     table: &Extensions<'_>,
@@ -30,6 +30,7 @@ pub fn done(
         "copy" => copy(desk, table, said),
         "concrete" => concrete(desk, said),
         "lacking" => lacking(desk.known.alloc, said),
+        "shown" => shown(desk.known.alloc, rest, said),
         _ => verdicts::done(desk, table, verb, rest, wanted, said),
     }
 }
@@ -79,6 +80,21 @@ fn concrete(desk: &mut Desk, said: &mut String) -> Made<()> {
 fn lacking(alloc: Global, said: &mut String) -> Made<()> {
     show(alloc, said, &ReauthorizationError::OutOfMemory)?;
     show(alloc, said, &ConcretizationError::OutOfMemory)
+}
+
+// How an authorizer over extensions of these names is shown. They have no functions.
+fn shown(alloc: Global, names: &str, said: &mut String) -> Made<()> {
+    let mut extensions = Vec::new(alloc);
+    for text in names.split(' ') {
+        if !text.is_empty() {
+            let functions = Vec::new(alloc);
+            extensions.push(Extension::new(name(alloc, text)?, functions, Vec::new(alloc)))?;
+        }
+    }
+    let table = made(Extensions::specific_extensions(alloc, extensions.as_slice()))?;
+    let authorizer = Authorizer::new(&table, 16);
+    let text = format!(in alloc; "{authorizer:?}")?;
+    say(said, text.as_str())
 }
 
 // The text of a decision.

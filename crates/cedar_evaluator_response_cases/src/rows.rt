@@ -317,6 +317,9 @@ limit 4 ; truth 1 : recursion limit reached
 limit 4 ; verdict 1 : recursion limit reached
 # out of memory
 lacking : out of memory out of memory
+# an authorizer is shown by its extensions
+shown : <Authorizer with no extensions>
+shown a b : <Authorizer with the following extensions: [a, b]>
 "##;
 
 // Whether the row says what stands in it. Fails where a command isn't known or lacks what it needs.

@@ -1,6 +1,5 @@
 -- What is printed may be printed.
-use Rattle.std.proofs.Common.{◌≡◌, ◌++◌, ◌≤◌, ℕ, List, [], false, Option, Some, None, is_none, option_map, Result, Ok, Err, IfOk, string_bytes, subst, refl, sym, ap, ◌∙◌}
-use Rattle.std.specs.Option.{option_map_or}
+use Rattle.std.proofs.Common.{◌≡◌, ◌++◌, ◌≤◌, ℕ, List, [], false, Option, Some, None, Result, Ok, Err, IfOk, string_bytes, subst, refl, sym, ap, ◌∙◌}
 use Rattle.std.specs.Str.{is_utf8}
 use Rattle.std.specs.declared.alloc.AllocError.{AllocError}
 use Rattle.serde_json.specs.Data.{Data}
@@ -18,9 +17,9 @@ use Rattle.cedar_gate_model.specs.ReadingBundle.{input_read, bundle_read}
 use Rattle.cedar_gate_model.specs.Runs.{End, answered, opening_refused, supply_refused, binding_refused, answer_refused}
 use Rattle.cedar_gate_model.specs.RunsAnswer.{Course, IsRun, course_of}
 use Rattle.cedar_gate_model.specs.Transcript.{Entry}
-use Rattle.cedar_gate_rules.specs.Causes.{cause_named, gate_fault_number, IsRefusedFor}
-use Rattle.cedar_gate_rules.specs.declared.fault.GateFault.{GateFault}
-use Rattle.cedar_gate_rules.specs.declared.fault.GateFault.TheVariants as fault
+use Rattle.cedar_gate_accepted.specs.Causes.{gate_fault_number, is_memory, IsTold, IsRefusedFor}
+use Rattle.cedar_gate_accepted.specs.declared.fault.GateFault.{GateFault}
+use Rattle.cedar_gate_accepted.specs.declared.fault.GateFault.TheVariants as fault
 use Rattle.cedar_evaluator_restricted_exprs.specs.Answers.{AgreesWith}
 use Rattle.cedar_expr_functions.specs.declared.extensions.Extensions.{Extensions}
 use Rattle.cedar_gate.specs.Courses.{IsFair}
@@ -33,42 +32,29 @@ use Rattle.cedar_gate_runs.specs.declared.status.Status.TheVariants.{Answered, R
 use Rattle.cedar_gate.specs.Serving.{Judged}
 use Rattle.cedar_gate.specs.declared.printing.Printed.{Printed}
 
--- a cause that is named has the number of the fault
-number_is : (d c : Cause) → Some d ≡ Some c → number_of c ≡ number_of d
-number_is d c e = subst (λ (o : Option Cause). option_map_or number_of o (number_of d) ≡ number_of d) e refl
-
-told_number : (o : Option SchemaFault) (c : Cause) → option_map schema o ≡ Some c → number_of c ≡ 1
-told_number None c e = cc
-told_number (Some f) c e = number_is (schema f) c e
-
-named_number : (f : GateFault) (c : Cause) → cause_named f ≡ Some c → number_of c ≡ gate_fault_number f
-named_number fault.OutOfMemory c e = cc
-named_number (fault.Schema x) c e = told_number (fault_told x) c e
-named_number fault.External c e = number_is external c e
-named_number fault.RepeatedPolicy c e = number_is repeated_policy c e
-named_number fault.UnlinkedSlot c e = number_is unlinked_slot c e
-named_number fault.SlotOutsideScope c e = number_is slot_outside_scope c e
-named_number fault.UnknownInPolicy c e = number_is unknown_in_policy c e
-named_number fault.Nesting c e = number_is nests_too_deep c e
-named_number fault.UnknownEntityType c e = number_is unknown_entity_type c e
-named_number fault.UnknownAction c e = number_is unknown_action c e
-named_number fault.EnumMember c e = number_is no_member c e
-named_number fault.IllTyped c e = number_is ill_typed c e
-named_number (fault.Level vs) c e = number_is reaches_too_far c e
-
 -- A fault of the submission is named, by its number.
 abbrev NamesFault : Submission → Text → Type 0
 NamesFault s text = (c : Cause) × HasFault c s × (text ≡ refused_line (number_of c))
 
--- a fault that names a cause is printed by its number
-refused_by : (s : Submission) (f : GateFault) (text : Text) (o : Option Cause) → cause_named f ≡ o → is_none o ≡ false → IsRefusedFor s f → text ≡ refused_line (gate_fault_number f)
-    → NamesFault s text
-refused_by s f text None k named there e = cc
-refused_by s f text (Some c) k named there e = (c, there c k, e ∙ ap refused_line (sym (named_number f c k)))
+-- a fault other than out of memory is printed by its number
+told_prints : (s : Submission) (o : Option SchemaFault) (text : Text) → IsTold s o → text ≡ refused_line 1 → NamesFault s text
+told_prints s None text h e = absurd h
+told_prints s (Some f) text h e = (schema f, h, e)
 
-refusal_prints : (s : Submission) (f : GateFault) (text : Text) → IsRefusedFor s f → is_none (cause_named f) ≡ false → text ≡ refused_line (gate_fault_number f)
-    → NamesFault s text
-refusal_prints s f text there named e = refused_by s f text (cause_named f) refl named there e
+refusal_prints : (s : Submission) (f : GateFault) (text : Text) → IsRefusedFor s f → is_memory f ≡ false → text ≡ refused_line (gate_fault_number f) → NamesFault s text
+refusal_prints s fault.OutOfMemory text h k e = absurd (cc)
+refusal_prints s (fault.Schema x) text h k e = told_prints s (fault_told x) text h e
+refusal_prints s fault.External text h k e = (external, h, e)
+refusal_prints s fault.RepeatedPolicy text h k e = (repeated_policy, h, e)
+refusal_prints s fault.UnlinkedSlot text h k e = (unlinked_slot, h, e)
+refusal_prints s fault.SlotOutsideScope text h k e = (slot_outside_scope, h, e)
+refusal_prints s fault.UnknownInPolicy text h k e = (unknown_in_policy, h, e)
+refusal_prints s fault.Nesting text h k e = (nests_too_deep, h, e)
+refusal_prints s fault.UnknownEntityType text h k e = (unknown_entity_type, h, e)
+refusal_prints s fault.UnknownAction text h k e = (unknown_action, h, e)
+refusal_prints s fault.EnumMember text h k e = (no_member, h, e)
+refusal_prints s fault.IllTyped text h k e = (ill_typed, h, e)
+refusal_prints s (fault.Level vs) text h k e = (reaches_too_far, h.0, e)
 
 -- the limit of a bundle that is read
 pub input_bundle : (x : Functions) (bytes : List ℕ) (b : Bundle) → input_read x bytes ≡ Some b → (d : Data) × (bundle_read x d ≡ Some b)
@@ -80,7 +66,7 @@ input_bundle x bytes b e =
 
 -- what is printed for a bundle: the number of a fault, or the lines of a run
 pub fault_prints : {B : _} {F : _} {γ : _} (t : Extensions B F γ) (b : code.Bundle) (f : GateFault) (r : Result Printed AllocError) → ((x : Functions) → AgreesWith t x → IsRefusedFor (bundle_of x b).submission f)
-    → IfOk r (λ p. (is_none (cause_named f) ≡ false) × (p.status ≡ Refused) × (string_bytes p.text ≡ refused_line (gate_fault_number f)))
+    → IfOk r (λ p. (is_memory f ≡ false) × (p.status ≡ Refused) × (string_bytes p.text ≡ refused_line (gate_fault_number f)))
     → IfOk r (λ p. (x : Functions) → IsFair t x → IsReadWell x b → Prints x (Some (bundle_of x b)) (status_of p.status) (string_bytes p.text))
 fault_prints t b f (Ok p) there h = λ x fair _.
     subst (λ (s : CodeStatus). Prints x (Some (bundle_of x b)) (status_of s) (string_bytes p.text)) (sym h.1) (refusal_prints (bundle_of x b).submission f (string_bytes p.text) (there x fair.agrees) h.0 h.2)
@@ -113,7 +99,7 @@ no_bundle_prints t bytes (Err a) e h = tt
 
 -- what is judged of a bundle whose submission is refused or accepted, and of an input that is no bundle
 pub fault_judged : {B : _} {F : _} {γ : _} (t : Extensions B F γ) (b : code.Bundle) (f : GateFault) (r : Result Printed AllocError) → ((x : Functions) → AgreesWith t x → IsRefusedFor (bundle_of x b).submission f)
-    → IfOk r (λ p. (is_none (cause_named f) ≡ false) × (p.status ≡ Refused) × (string_bytes p.text ≡ refused_line (gate_fault_number f)))
+    → IfOk r (λ p. (is_memory f ≡ false) × (p.status ≡ Refused) × (string_bytes p.text ≡ refused_line (gate_fault_number f)))
     → IfOk r (λ p. (x : Functions) → AgreesWith t x → Judged (Some (bundle_of x b)) (status_of p.status) (string_bytes p.text))
 fault_judged t b f (Ok p) there h = λ x a.
     subst (λ (s : CodeStatus). Judged (Some (bundle_of x b)) (status_of s) (string_bytes p.text)) (sym h.1) (refusal_prints (bundle_of x b).submission f (string_bytes p.text) (there x a) h.0 h.2)

@@ -15,9 +15,9 @@ ghost use Rattle.cedar_typechecker_model.specs.Seen.{ClosedByTests};
 
 use cedar_expr_functions::Extensions;
 use cedar_expr_leaves::RawName;
-use cedar_gate_accepted::{admitted_schema, judge, relevant};
+use cedar_gate_accepted::{GateFault, admitted_schema, judge, relevant};
 use cedar_gate_model::laws::acceptance_is_decided;
-use cedar_gate_rules::{GateFault, NestLimit};
+use cedar_gate_rules::NestLimit;
 use cedar_schema_built::ValidatorSchema;
 use cedar_schema_decl::json_schema::Fragment;
 use cedar_store_parts::{PolicyID, RequestType};
@@ -47,7 +47,7 @@ impl<'f, 't, 'e> Gate<'f, 't, 'e> {
     ghost use Rattle.cedar_expr_functions.specs.Tables.{functions_of, ordered_of};
     ghost use Rattle.cedar_gate_accepted.specs.Handed.{IsHandedIn};
     ghost use Rattle.cedar_gate.specs.Gates.{IsOf, declared_in, schema_built, policies_held, table_held, level_held, limit_held, warned_of};
-    ghost use Rattle.cedar_gate_rules.specs.Causes.{IsRefusedFor};
+    ghost use Rattle.cedar_gate_accepted.specs.Causes.{IsRefusedFor};
     ghost use Rattle.cedar_gate_model.specs.Acceptance.{Submission, warnings_of, policies_for};
     ghost use Rattle.cedar_gate_rules.specs.Limit.{levels_of};
     ghost use Rattle.cedar_gate_rules.specs.Policies.{policies_of};

@@ -13,8 +13,9 @@ mod runs;
 mod service;
 mod session;
 
+pub use cedar_gate_accepted::{GateFault, PolicyViolation};
 pub use cedar_gate_conforming::{ConformFault, check_entity, check_request};
-pub use cedar_gate_rules::{GateFault, NestLimit, PolicyViolation};
+pub use cedar_gate_rules::NestLimit;
 pub use cedar_gate_runs::{Entry, Host, HostFault, RunFault, Status, Step, StoreHost, Transcript};
 pub use cedar_gate_sessions::{
     AnswerFault, BindFault, Bounds, GateCalls, OpenFault, SessionAt, SupplyFault,

@@ -1,6 +1,6 @@
 //! What is printed for an input.
 
-ghost use Rattle.std.specs.Prelude.{◌≡◌, true, false, Some, IfOk, is_none, is_some, string_bytes};
+ghost use Rattle.std.specs.Prelude.{◌≡◌, true, false, Some, IfOk, is_some, string_bytes};
 ghost use Rattle.cedar_evaluator_restricted_exprs.specs.Answers.{AgreesWith};
 ghost use Rattle.cedar_gate.specs.Courses.{IsFair};
 ghost use Rattle.cedar_gate.specs.Printed.{IsReadWell, IsServedBy, PrintsAccepted, AddsRun, IsOfRun};
@@ -10,22 +10,20 @@ ghost use Rattle.cedar_gate_model.specs.Bundle.{Functions};
 ghost use Rattle.cedar_gate_model.specs.Lines.{Prints, refused_line, unreadable_line};
 ghost use Rattle.cedar_gate_model.specs.ReadingBundle.{input_read};
 ghost use Rattle.cedar_gate_model.specs.RunsAnswer.{Course};
-ghost use Rattle.cedar_gate_rules.specs.Causes.{cause_named, gate_fault_number};
+ghost use Rattle.cedar_gate_accepted.specs.Causes.{is_memory, gate_fault_number};
 ghost use Rattle.cedar_gate_runs.specs.Ends.{IsAnswered, IsStopped};
 ghost use Rattle.cedar_gate_runs.specs.Statuses.{status_of};
-ghost use Rattle.cedar_schema_builder.specs.Faults.{fault_told};
 
 use crate::gate::Gate;
 use crate::runs::run;
 use cedar_evaluator_requests::Request;
 use cedar_expr_functions::Extensions;
+use cedar_gate_accepted::GateFault;
 use cedar_gate_bundles::{Bundle, ReadFault, Submission, read_input};
-use cedar_gate_rules::GateFault;
 use cedar_gate_runs::lines::{
     push_answered, push_numbered, push_stopped, push_unreadable, push_warnings,
 };
 use cedar_gate_runs::{RunFault, Status, Step, StoreHost, Transcript};
-use cedar_schema_builder::SchemaError;
 use cedar_store_entities::Entities;
 use std::alloc::{AllocError, Global};
 
@@ -152,37 +150,16 @@ fn print_stopped(out: &mut String, fault: &RunFault) -> Result<Status, AllocErro
     Ok(Status::Stopped)
 }
 
-// Whether an error of the schema is out of memory.
-fn lacks_memory(error: &SchemaError) -> bool
-    ensures { result ≡ is_none (fault_told error.now) }
-{
-    matches!(error, SchemaError::OutOfMemory)
-}
-
-// Whether the fault is out of memory, which names no cause.
+// Whether the fault is out of memory.
 fn is_memory(fault: &GateFault) -> bool
-    ensures { result ≡ is_none (cause_named fault.now) }
+    ensures { result ≡ is_memory fault.now }
 {
-    match fault {
-        GateFault::OutOfMemory => true,
-        GateFault::Schema(error) => lacks_memory(error),
-        GateFault::External
-        | GateFault::RepeatedPolicy
-        | GateFault::UnlinkedSlot
-        | GateFault::SlotOutsideScope
-        | GateFault::UnknownInPolicy
-        | GateFault::Nesting
-        | GateFault::UnknownEntityType
-        | GateFault::UnknownAction
-        | GateFault::EnumMember
-        | GateFault::IllTyped
-        | GateFault::Level(_) => false,
-    }
+    matches!(fault, GateFault::OutOfMemory)
 }
 
 // What is printed for a refusal. Out of memory isn't printed.
 fn print_refusal(alloc: Global, fault: &GateFault) -> Result<Printed, AllocError>
-    ensures { IfOk result (λ p. (is_none (cause_named fault.now) ≡ false) × (p.status ≡ Status.Refused) × (string_bytes p.text ≡ refused_line (gate_fault_number fault.now))) }
+    ensures { IfOk result (λ p. (is_memory fault.now ≡ false) × (p.status ≡ Status.Refused) × (string_bytes p.text ≡ refused_line (gate_fault_number fault.now))) }
 {
     if is_memory(fault) {
         return Err(AllocError);

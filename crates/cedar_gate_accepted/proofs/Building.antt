@@ -1,10 +1,10 @@
 -- What is built of declarations, and why others are refused.
-use Rattle.std.proofs.Common.{◌≡◌, Bool, true, false, Option, Some, None, Ok, refl, ap, sym, ◌∙◌, subst, arith}
-use Rattle.std.specs.Prelude.{List, [], ◌∷◌, Contains, not, option_map}
+use Rattle.std.proofs.Common.{◌≡◌, Bool, true, false, Some, Ok, refl, ap, sym, ◌∙◌, subst, arith}
+use Rattle.std.specs.Prelude.{List, [], ◌∷◌, Contains, not}
 use Rattle.cedar_expr_model.specs.Name.{Name}
 use Rattle.cedar_expr_model.specs.Lists.{is_nil}
 use Rattle.cedar_expr_leaves.specs.declared.conditional_name.ConditionalName.{ConditionalName}
-use Rattle.cedar_gate_rules.specs.Causes.{fault_of_schema, IsRefusedFor}
+use Rattle.cedar_gate_accepted.specs.Causes.{fault_of_schema, IsRefusedFor}
 use Rattle.cedar_gate_accepted.specs.Refused.{IsSubmittedWith, IsCompleteWhere}
 use Rattle.cedar_gate_model.specs.Acceptance.{Submission, Cause, schema, external, extension_types, IsCause, is_clear_of, asks_schema, HasFault}
 use Rattle.cedar_schema_builder.specs.Faults.{fault_told, Tells, of_fragments}
@@ -64,39 +64,32 @@ module _ (decide : SchemaFaultsDecide) (x : List Name) (d : Declarations) (s : S
   declared_fault : (g : SchemaFault) → Contains ill_forms g → HasSchemaFault x d g → HasFault (schema g) s
   declared_fault g k h = plain_fault s (schema g) k refl (ap not (there g h))
 
-  named : (o : Option SchemaFault) → ((g : SchemaFault) → o ≡ Some g → HasFault (schema g) s) → (c : Cause) → option_map schema o ≡ Some c → HasFault c s
-  named None h c e = absurd (cc)
-  named (Some g) h c e =
-      let same : schema g ≡ c = cc in
-      let P : Cause → Type 0 = λ b. HasFault b s in subst P same (h g refl)
-
-  told : (e : SchemaError) → Tells (HasSchemaFault x d) e → (c : Cause) → option_map schema (fault_told e) ≡ Some c → HasFault c s
-  told e t c h = named (fault_told e) (λ g k. declared_fault g (ill_told e g k) (t g k)) c h
+  told : (e : SchemaError) → Tells (HasSchemaFault x d) e → (g : SchemaFault) → fault_told e ≡ Some g → HasFault (schema g) s
+  told e t g h = declared_fault g (ill_told e g h) (t g h)
 
   -- an error of the declarations, as the gate's fault
   pub error_refused : (e : SchemaError) → Tells (HasSchemaFault x d) e → IsRefusedFor s (fault_of_schema e)
-  error_refused error.OutOfMemory t c h = absurd (cc)
-  error_refused (error.DuplicateEntityType n) t c h = told (error.DuplicateEntityType n) t c h
-  error_refused (error.DuplicateCommonType n) t c h = told (error.DuplicateCommonType n) t c h
-  error_refused (error.DuplicateAction u) t c h = told (error.DuplicateAction u) t c h
-  error_refused (error.TypeNotDefined r) t c h = told (error.TypeNotDefined r) t c h
-  error_refused (error.ActionNotDefined r id) t c h = told (error.ActionNotDefined r id) t c h
-  error_refused (error.CycleInCommonTypeReferences n) t c h = told (error.CycleInCommonTypeReferences n) t c h
-  error_refused (error.CycleInActionHierarchy u) t c h = told (error.CycleInActionHierarchy u) t c h
-  error_refused (error.ActionEntityTypeDeclared n) t c h = told (error.ActionEntityTypeDeclared n) t c h
-  error_refused (error.ContextNotRecord u) t c h = told (error.ContextNotRecord u) t c h
-  error_refused (error.ReservedName r) t c h = told (error.ReservedName r) t c h
-  error_refused (error.TypeShadowing n) t c h = told (error.TypeShadowing n) t c h
-  error_refused (error.ActionShadowing u) t c h = told (error.ActionShadowing u) t c h
-  error_refused (error.UnknownExtensionType n) t c h = told (error.UnknownExtensionType n) t c h
+  error_refused error.OutOfMemory t = tt
+  error_refused (error.DuplicateEntityType n) t = told (error.DuplicateEntityType n) t _ refl
+  error_refused (error.DuplicateCommonType n) t = told (error.DuplicateCommonType n) t _ refl
+  error_refused (error.DuplicateAction u) t = told (error.DuplicateAction u) t _ refl
+  error_refused (error.TypeNotDefined r) t = told (error.TypeNotDefined r) t _ refl
+  error_refused (error.ActionNotDefined r id) t = told (error.ActionNotDefined r id) t _ refl
+  error_refused (error.CycleInCommonTypeReferences n) t = told (error.CycleInCommonTypeReferences n) t _ refl
+  error_refused (error.CycleInActionHierarchy u) t = told (error.CycleInActionHierarchy u) t _ refl
+  error_refused (error.ActionEntityTypeDeclared n) t = told (error.ActionEntityTypeDeclared n) t _ refl
+  error_refused (error.ContextNotRecord u) t = told (error.ContextNotRecord u) t _ refl
+  error_refused (error.ReservedName r) t = told (error.ReservedName r) t _ refl
+  error_refused (error.TypeShadowing n) t = told (error.TypeShadowing n) t _ refl
+  error_refused (error.ActionShadowing u) t = told (error.ActionShadowing u) t _ refl
+  error_refused (error.UnknownExtensionType n) t = told (error.UnknownExtensionType n) t _ refl
 
   -- an external declaration
-  pub external_refused : (k : Kept) → IsCompleteWhere x d k → is_nil (elsewhere k) ≡ false → (c : Cause) → Some external ≡ Some c → HasFault c s
-  external_refused k w2 h c e =
-      let same : external ≡ c = cc in
+  pub external_refused : (k : Kept) → IsCompleteWhere x d k → is_nil (elsewhere k) ≡ false → HasFault external s
+  external_refused k w2 h =
       let fault : has_schema_fault (extension_types s.table) s.declarations unresolved_external ≡ true =
       (λ i. has_schema_fault (w.given i) (w.declared i) unresolved_external) ∙ not_false (has_schema_fault x d unresolved_external) (sym w2.is ∙ h) in
-      let P : Cause → Type 0 = λ b. HasFault b s in subst P same (plain_fault s external tt refl (ap not fault))
+      plain_fault s external tt refl (ap not fault)
 
 -- where nothing is declared elsewhere there is no fault of an external declaration
 pub complete_where : SchemaFaultsDecide → CompleteIsFaultless → (x : List Name) (fs : List (ValidatorSchemaFragment ConditionalName ConditionalName)) (d : Declarations) (k : Kept) → IsBuiltOf x fs k → AreWritten fs d → IsCompleteWhere x d k

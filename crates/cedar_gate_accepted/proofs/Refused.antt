@@ -1,5 +1,5 @@
 -- A rule that is broken is a fault of the submission.
-use Rattle.std.proofs.Common.{◌≡◌, Bool, true, false, Some, ◌&&◌, refl, ap, sym, ◌∙◌, subst}
+use Rattle.std.proofs.Common.{◌≡◌, Bool, true, false, ◌&&◌, refl, ap, sym, ◌∙◌}
 use Rattle.std.specs.Prelude.{List, [], ◌∷◌, Contains, not}
 use Rattle.cedar_expr_model.specs.Name.{Name}
 use Rattle.cedar_schema_model.specs.BagLaws.{HasSchemaFault, SchemaFaultsDecide, WellFormedDecides}
@@ -29,12 +29,6 @@ pub external_fault : (x : List Name) (d : Declarations) → has_schema_fault x d
 external_fault x d h s e f =
     let here : has_schema_fault (extension_types s.table) s.declarations unresolved_external ≡ true = (λ i. has_schema_fault (f i) (e i) unresolved_external) ∙ h in
     plain_fault s external tt refl (ap not here)
-
--- the one cause that is named is there
-pub of_named : (s : Submission) (c : Cause) → HasFault c s → (d : Cause) → Some c ≡ Some d → HasFault d s
-of_named s c h d e =
-    let same : c ≡ d = cc in
-    let P : Cause → Type 0 = λ b. HasFault b s in subst P same h
 
 -- the declarations of a submission
 pub has_declared : WellFormedDecides → (x : List Name) (d : Declarations) → IsWellFormed x d → has_schema_fault x d unresolved_external ≡ false → (s : Submission) → s.declarations ≡ d → extension_types s.table ≡ x → has_schema s ≡ true

@@ -1,24 +1,25 @@
 -- What typing and levels say of policies, together.
 -- Rule: the acceptance rules; impossible policies (docs/RULES.md).
 use Rattle.std.specs.Prelude.{◌≡◌, ℕ, List, map, not, true}
-use Rattle.std.specs.List.{list_all, filter, flat_map}
+use Rattle.std.specs.List.{list_all, filter}
 use Rattle.cedar_expr_model.specs.Name.{Text}
 use Rattle.cedar_expr_model.specs.Lists.{is_nil}
 use Rattle.cedar_expr_model.specs.Table.{Table}
 use Rattle.cedar_gate_accepted.specs.declared.checked.Checked.{Checked}
 use Rattle.cedar_gate_model.specs.Acceptance.{Submission, ill_typed, reaches_too_far, schema_in, is_clear_of}
-use Rattle.cedar_gate_accepted.specs.ViolationViews.{reach_of}
+use Rattle.cedar_gate_accepted.specs.Violations.{all_violations, AreViolationsOf}
+use Rattle.cedar_typechecker_policies.specs.Violations.{violation_told}
 use Rattle.cedar_schema_model.specs.Schema.{Schema}
 use Rattle.cedar_store_model.specs.Answer.{ids}
 use Rattle.cedar_store_model.specs.Policy.{Policy}
 use Rattle.cedar_store_parts.specs.Parts.{id_text}
-use Rattle.cedar_typechecker_model.specs.Verdicts.{RequestType, passes, impossible, irrelevant_for, policy_violations}
+use Rattle.cedar_typechecker_model.specs.Verdicts.{RequestType, passes, impossible, irrelevant_for}
 use Rattle.cedar_typechecker_model.specs.Alike.{AnswersAlike, HasSameSignatures}
 
 -- The check says of these policies what is to be said of them.
 pub record ChecksAll (n : ℕ) (s : Schema) (x : Table) (ps : List Policy) (c : Checked) : Type 0 where
   pub passes : c.passes ≡ list_all (passes s x) ps
-  pub violations : map reach_of c.violations.items ≡ flat_map (policy_violations n s x) ps
+  pub violations : map violation_told c.violations.items ≡ all_violations n s x ps
   pub warnings : map id_text c.warnings.items ≡ ids (filter (impossible s x) ps)
 
 -- The submission has these policies and this level, a schema that answers as this one does, and a table of the same functions.
@@ -28,10 +29,11 @@ pub record IsTypedBy (t : Schema) (y : Table) (ps : List Policy) (n : ℕ) (s : 
   pub policies : s.policies ≡ ps
   pub level : s.level ≡ n
 
--- The check says whether the submission is clear of the faults of typing and of levels.
+-- The check says whether the submission is clear of the faults of typing and of levels, and has the violations of its policies.
 pub record IsJudgedBy (s : Submission) (c : Checked) : Type 0 where
   pub typed : is_clear_of ill_typed s ≡ c.passes
   pub near : is_clear_of reaches_too_far s ≡ is_nil c.violations.items
+  pub violations : AreViolationsOf s c.violations.items
 
 -- It has neither.
 pub record IsClearOfTyping (s : Submission) : Type 0 where

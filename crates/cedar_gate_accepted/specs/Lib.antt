@@ -1,7 +1,8 @@
 pub mod Alike
+pub mod Causes
 pub mod Checked
 pub mod Handed
 pub mod Untyped
 pub mod Refused
 pub mod Checks
-pub mod ViolationViews
+pub mod Violations

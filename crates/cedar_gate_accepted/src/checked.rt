@@ -1,17 +1,21 @@
 //! What typing and levels say of policies, together.
 
-ghost use Rattle.std.specs.Prelude.{◌≡◌, ◌&&◌, ◌++◌, ◌∷◌, [], List, map, if◌then◌else◌, IfOk, OnOk};
+ghost use Rattle.std.specs.Prelude.{◌≡◌, ◌&&◌, ◌++◌, ◌∷◌, [], List, map, Some, if◌then◌else◌, IfOk, OnOk};
 ghost use Rattle.cedar_gate_accepted.specs.Checked.{ChecksAll};
 ghost use Rattle.cedar_gate_rules.specs.Policies.{policies_of};
-ghost use Rattle.cedar_gate_accepted.specs.ViolationViews.{reach_of};
+ghost use Rattle.cedar_schema_model.specs.Types.{strict};
+ghost use Rattle.cedar_typechecker_model.specs.Verdicts.{policy_environments};
+ghost use Rattle.cedar_typechecker_policies.specs.Findings.{ChecksOver};
+ghost use Rattle.cedar_typechecker_policies.specs.Violations.{violation_told};
 ghost use Rattle.cedar_store_model.specs.Policy.{Policy as ModelPolicy};
 ghost use Rattle.cedar_store_parts.specs.Parts.{id_text};
 ghost use Rattle.cedar_store_policies.specs.Policies.{policy_of};
 
-use crate::check_policy;
-use cedar_gate_rules::PolicyViolation;
+use cedar_schema_joins::ValidationMode;
 use cedar_store_parts::PolicyID;
-use cedar_store_policies::Policy;
+use cedar_store_policies::{Policy, Template};
+use cedar_typechecker_levels::EntityDerefLevel;
+use cedar_typechecker_policies::{PolicyFindings, PolicyViolation, Subject, check_policy};
 use cedar_typechecker_scopes::SchemaEnvironments;
 use std::alloc::{AllocError, Global};
 
@@ -31,7 +35,7 @@ fn add_violations(
     found: &mut Vec<PolicyViolation>,
     violations: Vec<PolicyViolation>,
 ) -> Result<(), AllocError>
-    ensures { OnOk result (map reach_of found.new.items ≡ map reach_of found.old.items ++ map reach_of violations.items) }
+    ensures { OnOk result (map violation_told found.new.items ≡ map violation_told found.old.items ++ map violation_told violations.items) }
 {
     for violation in violations {
         found.push(violation)?;
@@ -63,8 +67,27 @@ fn add_pass(checked: &mut Checked, passes: bool)
     checked.passes = checked.passes && passes;
 }
 
+// What typing, in the strict way, and levels say of the policy.
+fn findings_of<S: SchemaEnvironments>(
+    alloc: Global,
+    schema: &S,
+    level: u32,
+    policy: &Policy,
+) -> Result<PolicyFindings, AllocError>
+    ensures { IfOk result (ChecksOver (Some level) strict (S.schema schema.now) (S.table schema.now) (policy_of policy.now) (policy_environments (S.schema schema.now) (policy_of policy.now))) }
+{
+    let template: &Template = policy.template();
+    let level = EntityDerefLevel::from(level);
+    let subject = Subject {
+        id: policy.id(),
+        template,
+        bound: policy.env(),
+        level: Some(level),
+    };
+    check_policy(alloc, schema, ValidationMode::Strict, &subject)
+}
+
 // Adds what typing and levels say of one more policy.
-#[tactic(auto, using(crate::proofs::Judging::checks_more))]
 fn add_policy<S: SchemaEnvironments>(
     alloc: Global,
     schema: &S,
@@ -74,10 +97,11 @@ fn add_policy<S: SchemaEnvironments>(
 ) -> Result<(), AllocError>
     ensures { OnOk result ((ps : List ModelPolicy) → ChecksAll level (S.schema schema.now) (S.table schema.now) ps checked.old → ChecksAll level (S.schema schema.now) (S.table schema.now) (ps ++ policy_of policy.now ∷ []) checked.new) }
 {
-    let check = check_policy(alloc, schema, level, policy)?;
-    add_warning(&mut checked.warnings, policy, check.is_impossible)?;
-    add_pass(checked, check.passes);
-    add_violations(&mut checked.violations, check.violations)
+    let found = findings_of(alloc, schema, level, policy)?;
+    add_warning(&mut checked.warnings, policy, found.is_impossible)?;
+    add_pass(checked, found.passes);
+    add_violations(&mut checked.violations, found.violations)?;
+    Ok(())
 }
 
 // What typing and levels say of these policies: the condition of each is typed once in each of its environments. Fails only when

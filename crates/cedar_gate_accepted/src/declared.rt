@@ -3,7 +3,7 @@
 ghost use Rattle.std.specs.Prelude.{◌≡◌, false, List, IfOk, IfErr};
 ghost use Rattle.cedar_expr_model.specs.Name.{Name};
 ghost use Rattle.cedar_gate_accepted.specs.Refused.{IsSubmittedWith, IsCompleteWhere};
-ghost use Rattle.cedar_gate_rules.specs.Causes.{IsRefusedFor};
+ghost use Rattle.cedar_gate_accepted.specs.Causes.{IsRefusedFor};
 ghost use Rattle.cedar_gate_fragments.specs.Written.{declared_by};
 ghost use Rattle.cedar_gate_model.specs.Acceptance.{Submission};
 ghost use Rattle.cedar_schema_builder.specs.Extensions.{types_given};
@@ -15,10 +15,10 @@ ghost use Rattle.cedar_schema_model.specs.BagLaws.{HasSchemaFault};
 ghost use Rattle.cedar_schema_model.specs.Resolved.{schema_of};
 ghost use Rattle.cedar_schema_model.specs.WellFormed.{unresolved_external, has_schema_fault, IsWellFormed};
 
+use crate::fault::GateFault;
 use cedar_expr_functions::Extensions;
 use cedar_expr_leaves::{ConditionalName, RawName};
 use cedar_gate_fragments::fragments_of;
-use cedar_gate_rules::GateFault;
 use cedar_schema_builder::SchemaError;
 use cedar_schema_built::ValidatorSchema;
 use cedar_schema_built::laws::external_declarations_are_refused;

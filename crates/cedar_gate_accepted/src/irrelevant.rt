@@ -5,12 +5,13 @@ ghost use Rattle.std.specs.List.{list_all};
 ghost use Rattle.cedar_gate_accepted.specs.Checks.{kind_asked, is_excused_for};
 ghost use Rattle.cedar_store_policies.specs.Policies.{policy_of};
 ghost use Rattle.cedar_typechecker_environments.specs.Settings.{environment_of};
-ghost use Rattle.cedar_typechecker_model.specs.Verdicts.{fits, is_of_request, irrelevant_for};
+ghost use Rattle.cedar_typechecker_model.specs.Verdicts.{fits, is_of_request, irrelevant_for, is_false, condition_type};
 
-use crate::environment::{fits, verdict_in};
+use cedar_schema_joins::ValidationMode;
 use cedar_store_parts::RequestType;
-use cedar_store_policies::Policy;
-use cedar_typechecker_environments::{RequestEnv, TypingSchema};
+use cedar_store_policies::{Policy, Template};
+use cedar_typechecker_environments::{RequestEnv, TypingSchema, World};
+use cedar_typechecker_policies::{check_in, fits};
 use cedar_typechecker_scopes::{SchemaEnvironments, policy_environments};
 use std::alloc::{AllocError, Global};
 
@@ -27,7 +28,23 @@ fn is_of_request(kind: &RequestType, env: &RequestEnv) -> bool
 fn is_asked(kind: &RequestType, policy: &Policy, env: &RequestEnv) -> bool
     ensures { result ≡ (fits (policy_of policy.now) (environment_of env.now) && is_of_request (kind_asked kind.now) (environment_of env.now)) }
 {
-    fits(policy, env) && is_of_request(kind, env)
+    fits(policy.env(), env) && is_of_request(kind, env)
+}
+
+// Whether the policy's condition has the type False, in the strict way, in the environment.
+fn is_false_in<S: TypingSchema>(
+    alloc: Global,
+    schema: &S,
+    policy: &Policy,
+    env: &RequestEnv,
+) -> Result<bool, AllocError>
+    ensures { IfOk result (λ b. b ≡ is_false (condition_type (S.schema schema.now) (S.table schema.now) (policy_of policy.now) (environment_of env.now))) }
+{
+    let template: &Template = policy.template();
+    let mode = ValidationMode::Strict;
+    let world = World { schema, mode, env };
+    let check = check_in(alloc, &world, template)?;
+    Ok(check.is_irrelevant())
 }
 
 // Whether the environment isn't asked for, or gives the policy's condition the type False.
@@ -41,8 +58,7 @@ fn is_excused_in<S: TypingSchema>(
     ensures { IfOk result (λ b. b ≡ is_excused_for (kind_asked kind.now) (S.schema schema.now) (S.table schema.now) (policy_of policy.now) (environment_of env.now)) }
 {
     if is_asked(kind, policy, env) {
-        let verdict = verdict_in(alloc, schema, policy, env)?;
-        Ok(verdict.is_false)
+        is_false_in(alloc, schema, policy, env)
     } else {
         Ok(true)
     }

@@ -3,7 +3,7 @@
 ghost use Rattle.std.specs.Prelude.{◌≡◌, true, map, IfOk, IfErr, OnOk};
 ghost use Rattle.cedar_expr_functions.specs.Tables.{table_of};
 ghost use Rattle.cedar_gate_accepted.specs.Checked.{IsTypedBy, IsJudgedBy, IsClearOfTyping};
-ghost use Rattle.cedar_gate_rules.specs.Causes.{IsRefusedFor};
+ghost use Rattle.cedar_gate_accepted.specs.Causes.{IsRefusedFor};
 ghost use Rattle.cedar_gate_model.specs.Acceptance.{Submission, has_schema, warnings_of};
 ghost use Rattle.cedar_gate_rules.specs.Policies.{policies_of};
 ghost use Rattle.cedar_schema_built.specs.Views.{schema_kept};
@@ -12,8 +12,8 @@ ghost use Rattle.cedar_typechecker.specs.SchemaViews.{silent};
 ghost use Rattle.cedar_typechecker_model.specs.Seen.{schema_seen, IsClosed};
 
 use crate::checked::{Checked, check_all};
+use crate::fault::GateFault;
 use cedar_expr_functions::Extensions;
-use cedar_gate_rules::GateFault;
 use cedar_schema_built::ValidatorSchema;
 use cedar_store_parts::PolicyID;
 use cedar_store_policies::Policy;

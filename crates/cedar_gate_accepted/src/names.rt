@@ -3,11 +3,12 @@
 ghost use Rattle.std.specs.Prelude.{◌≡◌, true, IfErr, OnOk};
 ghost use Rattle.cedar_gate_accepted.specs.Handed.{IsSeenBy};
 ghost use Rattle.cedar_gate_accepted.specs.Untyped.{is_clear_of_all, scope_causes};
-ghost use Rattle.cedar_gate_rules.specs.Causes.{IsRefusedFor};
+ghost use Rattle.cedar_gate_accepted.specs.Causes.{IsRefusedFor};
 ghost use Rattle.cedar_gate_model.specs.Acceptance.{Submission, has_schema};
 ghost use Rattle.cedar_gate_rules.specs.Policies.{policies_of};
 
-use cedar_gate_rules::{GateFault, name_known_actions, name_known_members, name_known_types};
+use crate::fault::GateFault;
+use cedar_gate_rules::{name_known_actions, name_known_members, name_known_types};
 use cedar_store_policies::Policy;
 use cedar_typechecker_model::alike_laws::scope_rules_are_alike;
 use cedar_typechecker_scopes::ScopeSchema;

@@ -3,13 +3,14 @@
 ghost use Rattle.std.specs.Prelude.{◌≡◌, true, IfErr, OnOk};
 ghost use Rattle.cedar_gate_accepted.specs.Handed.{HasPolicies};
 ghost use Rattle.cedar_gate_accepted.specs.Untyped.{is_clear_of_all, plain_causes};
-ghost use Rattle.cedar_gate_rules.specs.Causes.{IsRefusedFor};
+ghost use Rattle.cedar_gate_accepted.specs.Causes.{IsRefusedFor};
 ghost use Rattle.cedar_gate_model.specs.Acceptance.{Submission};
 ghost use Rattle.cedar_gate_rules.specs.Limit.{levels_of};
 ghost use Rattle.cedar_gate_rules.specs.Policies.{policies_of};
 
+use crate::fault::GateFault;
 use cedar_gate_rules::{
-    GateFault, NestLimit, are_linked, ids_are_distinct, keep_slots_in_scope, nest_within,
+    NestLimit, are_linked, ids_are_distinct, keep_slots_in_scope, nest_within,
     stand_without_unknowns,
 };
 use cedar_store_policies::Policy;

@@ -1,4 +1,3 @@
 pub mod Policies
 pub mod Limit
-pub mod Causes
 pub mod Rules

@@ -1,9 +1,7 @@
 //! The acceptance rules before typing: those of ids, slots, unknowns and nesting, which ask no schema, and the scope rules, which do.
-//! Contract: each function answers exactly whether the policies keep its rule; a `GateFault` names a cause of the rules, whose number it has.
-//! Used by the gate, and by the program that prints what the gate refuses.
+//! Contract: each function answers exactly whether the policies keep its rule. Used by the gate.
 #![tactic(auto)]
 
-mod fault;
 mod fields;
 mod ids;
 mod nest_limit;
@@ -12,7 +10,6 @@ mod policies;
 mod rules;
 mod scoped_policies;
 
-pub use fault::{GateFault, PolicyViolation};
 pub use ids::ids_are_distinct;
 pub use nest_limit::NestLimit;
 pub use nesting::nests_within;

@@ -4,7 +4,7 @@ use cedar_expr_values::{ExtValue, Value};
 use std::rc::RcStr;
 
 /// A step of a run.
-#[derive(Drop)]
+#[derive(Debug, Drop)]
 pub enum Step {
     /// What is wanted is loaded.
     Load,

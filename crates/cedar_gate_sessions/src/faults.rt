@@ -4,35 +4,42 @@ ghost use Rattle.std.specs.Prelude.{◌≡◌};
 
 use cedar_gate_wanted::Unfit;
 use std::alloc::AllocError;
-use std::error::Error;
-use std::fmt;
-use std::fmt::{Display, Formatter, Write};
+use thiserror::Error;
 
 /// Why what is supplied is refused.
-#[derive(Clone, Copy, Debug, PartialEq, Eq)]
+#[derive(Clone, Copy, Debug, PartialEq, Eq, Error)]
 pub enum SupplyFault {
     /// Out of memory.
+    #[error("out of memory")]
     OutOfMemory,
     /// A uid isn't wanted.
+    #[error("a uid is supplied that is not wanted")]
     NotWanted,
     /// A wanted uid lacks.
+    #[error("a wanted uid is not supplied")]
     Lacking,
     /// A uid stands twice.
+    #[error("a uid is supplied twice")]
     Repeated,
     /// An entity has another uid, or doesn't conform to the schema.
+    #[error("an entity has another uid or does not conform")]
     WrongEntity,
 }
 
 /// Why no answer is given.
-#[derive(Clone, Copy, Debug, PartialEq, Eq)]
+#[derive(Clone, Copy, Debug, PartialEq, Eq, Error)]
 pub enum AnswerFault {
     /// Out of memory.
+    #[error("out of memory")]
     OutOfMemory,
     /// Something isn't bound.
+    #[error("something is not bound")]
     NotBound,
     /// Something is wanted.
+    #[error("something is wanted")]
     StillWanted,
     /// All is bound, and the request doesn't conform to the schema.
+    #[error("the request does not conform to the schema")]
     NotConforming,
 }
 
@@ -103,32 +110,3 @@ impl From<AllocError> for AnswerFault {
         AnswerFault::OutOfMemory
     }
 }
-
-impl Display for SupplyFault {
-    fn fmt<W: Write>(&self, f: &mut Formatter<W>) -> fmt::Result {
-        let text = match self {
-            SupplyFault::OutOfMemory => "out of memory",
-            SupplyFault::NotWanted => "a uid is supplied that is not wanted",
-            SupplyFault::Lacking => "a wanted uid is not supplied",
-            SupplyFault::Repeated => "a uid is supplied twice",
-            SupplyFault::WrongEntity => "an entity has another uid or does not conform",
-        };
-        f.write_str(text)
-    }
-}
-
-impl Error for SupplyFault {}
-
-impl Display for AnswerFault {
-    fn fmt<W: Write>(&self, f: &mut Formatter<W>) -> fmt::Result {
-        let text = match self {
-            AnswerFault::OutOfMemory => "out of memory",
-            AnswerFault::NotBound => "something is not bound",
-            AnswerFault::StillWanted => "something is wanted",
-            AnswerFault::NotConforming => "the request does not conform to the schema",
-        };
-        f.write_str(text)
-    }
-}
-
-impl Error for AnswerFault {}

@@ -1,5 +1,5 @@
 -- What is found of a policy, by what is found over its environments.
-use Rattle.std.proofs.Common.{◌≡◌, ◌||◌, ℕ, Bool, true, List, [], ◌∷◌, ◌++◌, Result, Ok, Err, refl, sym, ap, ◌∙◌, append_assoc, map, IfOk, OnOk}
+use Rattle.std.proofs.Common.{◌≡◌, ◌||◌, ℕ, Bool, true, Some, List, [], ◌∷◌, ◌++◌, Result, Ok, Err, refl, sym, ap, ◌∙◌, append_assoc, map, IfOk, OnOk}
 use Rattle.std.specs.Set.{is_member, IsUnion}
 use Rattle.cedar_expr_model.specs.Lists.{is_nil}
 use Rattle.cedar_expr_model.specs.Table.{Table}
@@ -8,12 +8,14 @@ use Rattle.cedar_schema_model.specs.Types.{Mode, strict}
 use Rattle.cedar_store_model.specs.Policy.{Policy}
 use Rattle.cedar_store_parts.specs.declared.diagnostics.ValidationError.{ValidationError}
 use Rattle.cedar_typechecker_model.specs.Verdicts.{passes_in, policy_environments, policy_violations_in}
-use Rattle.cedar_typechecker_policies.specs.Findings.{LevelsOver, reached_by}
+use Rattle.cedar_typechecker_policies.specs.Findings.{ChecksOver}
+use Rattle.cedar_typechecker_policies.specs.Violations.{reached_in, reached_by, violation_told, blame_told, Reached}
 use Rattle.cedar_typechecker_policies.specs.Found.{FindsErrors, scope_blames}
 use Rattle.cedar_typechecker_policies.specs.Sound.{ForAlike, PolicyMeansTruth, LooksInReach}
-use Rattle.cedar_typechecker_policies.specs.declared.leveled.Leveled.{Leveled}
+use Rattle.cedar_typechecker_policies.specs.declared.findings.PolicyFindings.{PolicyFindings}
+use Rattle.cedar_typechecker_policies.proofs.Over.{map_both}
 use Rattle.cedar_typechecker_policies.proofs.Sound.{passing_means, passing_reaches}
-use Rattle.cedar_typechecker_scopes.specs.Faults.{blame_of}
+use Rattle.cedar_typechecker_scopes.specs.Faults.{Blame, blame_of}
 
 -- what is so of what is answered, and what follows from that
 pub on_ok : {X E : Type 0} (r : Result X E) (P Q : X → Type 0) → ((x : X) → P x → Q x) → IfOk r P → IfOk r Q
@@ -40,29 +42,39 @@ of_map : {X Y : Type 0} (f : X → Y) (xs : List X) → map f xs ≡ [] → xs �
 of_map f [] e = refl
 of_map f (x ∷ xs) e = absurd (cc)
 
-module _ (n : ℕ) (m : Mode) (s : Schema) (x : Table) (p : Policy) (l : Leveled) (h : LevelsOver n m s x p (policy_environments s p) l) (es : List ValidationError)
-    (are : map blame_of es ≡ (scope_blames s p ++ map blame_of l.found.errors.items) ++ map blame_of l.reached.items) where
+-- what is said of each violation
+abbrev blame_reached : Reached → Blame
+blame_reached r = reached_by r.policy r.violation
+
+module _ (n : ℕ) (m : Mode) (s : Schema) (x : Table) (p : Policy) (f : PolicyFindings) (h : ChecksOver (Some n) m s x p (policy_environments s p) f) (es : List ValidationError)
+    (are : map blame_of es ≡ (scope_blames s p ++ map blame_of f.errors.items) ++ map blame_told f.violations.items) where
+  reached : map blame_told f.violations.items ≡ map (reached_by p.id) (policy_violations_in m n s x p)
+  reached =
+      map_both blame_reached violation_told f.violations.items
+      ∙ ap (map blame_reached) h.violations
+      ∙ sym (map_both blame_reached (reached_in p.id) (policy_violations_in m n s x p))
+
   -- its errors
   pub errors_found : FindsErrors n m s x p es
   errors_found = (
-    l.found.errors.items,
-    h.checks.policy,
-    h.checks.errors ∙ h.checks.passes,
-    are ∙ append_assoc (scope_blames s p) (map blame_of l.found.errors.items) (map blame_of l.reached.items) ∙ ap (λ r. scope_blames s p ++ (map blame_of l.found.errors.items ++ r)) h.reached,
+    f.errors.items,
+    h.policy,
+    h.errors ∙ h.passes,
+    are ∙ append_assoc (scope_blames s p) (map blame_of f.errors.items) (map blame_told f.violations.items) ∙ ap (λ r. scope_blames s p ++ (map blame_of f.errors.items ++ r)) reached,
   )
 
   module _ (nothing : es ≡ []) where
-    nowhere : (scope_blames s p ++ map blame_of l.found.errors.items) ++ map blame_of l.reached.items ≡ []
+    nowhere : (scope_blames s p ++ map blame_of f.errors.items) ++ map blame_told f.violations.items ≡ []
     nowhere = sym are ∙ ap (map blame_of) nothing
 
-    untyped : l.found.errors.items ≡ []
-    untyped = of_map blame_of l.found.errors.items (nil_right (scope_blames s p) (map blame_of l.found.errors.items) (nil_left (scope_blames s p ++ map blame_of l.found.errors.items) (map blame_of l.reached.items) nowhere))
+    untyped : f.errors.items ≡ []
+    untyped = of_map blame_of f.errors.items (nil_right (scope_blames s p) (map blame_of f.errors.items) (nil_left (scope_blames s p ++ map blame_of f.errors.items) (map blame_told f.violations.items) nowhere))
 
     passing : passes_in m s x p ≡ true
-    passing = sym h.checks.passes ∙ sym h.checks.errors ∙ ap is_nil untyped
+    passing = sym h.passes ∙ sym h.errors ∙ ap is_nil untyped
 
     unreached : policy_violations_in m n s x p ≡ []
-    unreached = of_map (reached_by p.id) (policy_violations_in m n s x p) (sym h.reached ∙ nil_right (scope_blames s p ++ map blame_of l.found.errors.items) (map blame_of l.reached.items) nowhere)
+    unreached = of_map (reached_by p.id) (policy_violations_in m n s x p) (sym reached ∙ nil_right (scope_blames s p ++ map blame_of f.errors.items) (map blame_told f.violations.items) nowhere)
 
     -- and where nothing is wrong, what that promises
     pub nothing_means : m ≡ strict → ForAlike s x (PolicyMeansTruth p)

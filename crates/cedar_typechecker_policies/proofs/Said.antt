@@ -1,5 +1,5 @@
 -- What a check says of a typed condition, and what its levels are.
-use Rattle.std.proofs.Common.{◌≡◌, ℕ, true, false, [], Option, Some, None, refl, sym, ap, subst, ◌∙◌, MatchOption}
+use Rattle.std.proofs.Common.{◌≡◌, ℕ, true, false, Option, Some, None, refl, sym, ap, subst, ◌∙◌, MatchOption}
 use Rattle.std.specs.Prelude.{option_map}
 use Rattle.cedar_expr_model.specs.Name.{Text}
 use Rattle.cedar_expr_model.specs.Tree.{Tree}
@@ -10,14 +10,14 @@ use Rattle.cedar_schema_types.specs.declared.types.Type.{«Type» as CodeType}
 use Rattle.cedar_schema_types.specs.Types as code
 use Rattle.cedar_typechecker_policies.specs.Conditions.{IsTypedAs, IsVerdictOf}
 use Rattle.cedar_typechecker_policies.specs.declared.verdict.Verdict.{Verdict as CodeVerdict}
-use Rattle.cedar_typechecker_policies.proofs.Typing.{no_type, none_violated, verdict_held, violated_at}
+use Rattle.cedar_typechecker_policies.proofs.Typing.{no_type, verdict_held, violated_at}
 use Rattle.cedar_typechecker_levels.specs.Marked.{marks_of}
 use Rattle.cedar_typechecker_model.specs.Facts.{no_facts}
 use Rattle.cedar_typechecker_model.specs.Rules.{Setting}
 use Rattle.cedar_typechecker_model.specs.Typing.{type_of}
 use Rattle.cedar_typechecker_model.specs.Verdicts.{success, irrelevant, fail, verdict_of, is_bool, is_false}
-use Rattle.cedar_typechecker_policies.specs.Checks.{IsChecked, CheckSays, is_passing}
-use Rattle.cedar_typechecker_policies.specs.Findings.{violated}
+use Rattle.cedar_typechecker_policies.specs.Checks.{IsChecked, CheckSays, is_passing, is_irrelevant}
+use Rattle.cedar_typechecker_policies.specs.Violations.{violated}
 use Rattle.cedar_typechecker_policies.specs.declared.check.PolicyCheck.TheVariants.{Success, Irrelevant, Fail}
 use Rattle.cedar_typechecker_policies.specs.declared.checked.Checked.{Checked}
 use Rattle.cedar_typechecker_model.specs.Counts.{violations_at}
@@ -46,6 +46,12 @@ pub passes_as_bool : (o : Option Ty) → is_passing (verdict_of o) ≡ is_bool o
 passes_as_bool (Some (bool_type only_false)) = refl
 passes_as_bool (Some (bool_type b)) = refl
 passes_as_bool o = refl
+
+-- and is irrelevant exactly where it is False
+pub irrelevant_as_false : (o : Option Ty) → is_irrelevant (verdict_of o) ≡ is_false o
+irrelevant_as_false (Some (bool_type only_false)) = refl
+irrelevant_as_false (Some (bool_type b)) = refl
+irrelevant_as_false o = refl
 
 -- the verdict of an expression that may have a type
 module _ (law : TypedAsJudged) (s : Setting) (t : Tree) where
@@ -85,6 +91,3 @@ module _ (s : Setting) (t : Tree) (id : Text) (c : Checked) (h : IsChecked s t i
   -- the violations of what is typed
   pub violated_here : TypedAsJudged → SameTree → CountedOnMarks → (n : ℕ) (e : Expr (Option CodeType)) → c.typed ≡ Some e → violations_at n s (tree_of e) (marks_of e) ≡ violated n s t
   violated_here law same counted n e is = violated_at s t e law (held e is) same counted n
-
-  pub violated_nowhere : TypedAsJudged → (n : ℕ) → c.typed ≡ None → [] ≡ violated n s t
-  violated_nowhere law n is = none_violated law n s t (none is)

@@ -10,6 +10,7 @@ use Rattle.cedar_schema_model.specs.Schema.{Schema}
 use Rattle.cedar_schema_model.specs.Types.{BoolType, any_bool, bool_type, Mode, strict}
 use Rattle.cedar_store_model.specs.Outcome.{Res, val, err}
 use Rattle.cedar_store_model.specs.Policy.{Policy}
+use Rattle.cedar_store_model.proofs.Known.{an_outcome}
 use Rattle.cedar_typechecker_model.specs.Facts.{no_facts}
 use Rattle.cedar_typechecker_model.specs.Rules.{Setting}
 use Rattle.cedar_typechecker_model.specs.Soundness.{IsGood}
@@ -58,6 +59,6 @@ module _ (k : Setting) (t : Tree) (strictly_typed : k.mode ≡ strict) (bool : i
       ∙ ap (λ z. type_of (in_mode z k.schema k.table k.env) t) (sym strictly_typed)
 
   pub checked_means : ForAlike k.schema k.table (MeansTruth k.env t)
-  checked_means d y alike same w suits bound conform r means =
+  checked_means d y alike same w suits bound conform =
       let h = (is_bool-Decides (strictly d y k.env) t).0 (ap is_bool (type_alike d y alike same) ∙ bool) in
-      any_good h.0 r (types_are_sound d y k.env w suits no_facts t (hold_none w) bound conform (bool_type h.0) h.1 h.2 r means).0
+      ((λ r means. any_good h.0 r (types_are_sound d y k.env w suits no_facts t (hold_none w) bound conform (bool_type h.0) h.1 h.2 r means).0), (λ whole. an_outcome w whole t))

@@ -34,9 +34,6 @@ typed_type law s t o h = ap (option_map (λ j. j.type)) (sym (law s no_facts t))
 pub no_type : TypedAsJudged → (s : Setting) (t : Tree) → typed s no_facts t ≡ None → None ≡ type_of s t
 no_type law s t h = sym (typed_type law s t None h)
 
-pub none_violated : TypedAsJudged → (n : ℕ) (s : Setting) (t : Tree) → typed s no_facts t ≡ None → [] ≡ option_map_or (λ _. violations n s no_facts t) (type_of s t) []
-none_violated law n s t h = ap (λ o. option_map_or (λ _. violations n s no_facts t) o []) (no_type law s t h)
-
 module _ (s : Setting) (t : Tree) (e : Expr (Option CodeType)) where
   of_data : (f : Facts) (d : Option CodeType) → e.«data» ≡ d → is_some d ≡ true → typed_at e f d ≡ typed s no_facts t → IsTypedAs s t e
   of_data f None h k j = absurd (let l : false ≡ true = k in cc)

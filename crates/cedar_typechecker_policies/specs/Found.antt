@@ -16,7 +16,8 @@ use Rattle.cedar_store_parts.specs.declared.diagnostics.ValidationError.{Validat
 use Rattle.cedar_store_parts.specs.declared.diagnostics.ValidationWarning.{ValidationWarning}
 use Rattle.cedar_typechecker_model.specs.Verdicts.{passes_in, is_warned, policy_violations_in}
 use Rattle.cedar_typechecker_policies.specs.Checks.{is_error_of}
-use Rattle.cedar_typechecker_policies.specs.Findings.{reached_by, warned_as}
+use Rattle.cedar_typechecker_policies.specs.Findings.{warned_as}
+use Rattle.cedar_typechecker_policies.specs.Violations.{reached_by}
 use Rattle.cedar_typechecker_scopes.specs.Applying.{Asked, application_warnings}
 use Rattle.cedar_typechecker_scopes.specs.Faults.{Blame, known_types, known_actions, known_members, wrong_within, blamed, blame_of}
 

@@ -3,4 +3,5 @@ pub mod Findings
 pub mod Found
 pub mod Iterated
 pub mod Sound
+pub mod Violations
 pub mod Conditions

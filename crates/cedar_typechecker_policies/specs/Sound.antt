@@ -25,10 +25,11 @@ use Rattle.cedar_typechecker_model.specs.Alike.{AnswersAlike, HasSameSignatures}
 abbrev pub ForAlike : Schema → Table → (Schema → Table → Type 0) → Type 0
 ForAlike s x P = (d : Schema) (y : Table) → AnswersAlike s d → HasSameSignatures x y → P d y
 
--- In a world that suits the environment the expression means a truth value, or errs by a missing entity, an overflow, a zero
--- divisor or a failed extension function.
+-- In a world that suits the environment all that the expression means is a truth value, or an error by a missing entity, an overflow, a
+-- zero divisor or a failed extension function; and where everything is known it means one of these.
 abbrev pub MeansTruth : Environment → Tree → Schema → Table → Type 0
-MeansTruth e t d y = (w : World) → Suits d y e w → SlotsAreBound w t → ((u : Uid) → Looks w t u → ConformsAt d w u) → (r : Res V) → Means w t r → IsGood (bool_type any_bool) r
+MeansTruth e t d y = (w : World) → Suits d y e w → SlotsAreBound w t → ((u : Uid) → Looks w t u → ConformsAt d w u)
+    → ((r : Res V) → Means w t r → IsGood (bool_type any_bool) r) × (IsWhole w → (r : Res V) × Means w t r)
 
 -- the policy with these bindings
 abbrev pub with_bindings : Policy → SlotBindings → Policy

@@ -33,6 +33,20 @@ pub enum PolicyCheck {
     Fail(Vec<ValidationError>),
 }
 
+impl PolicyCheck {
+    ghost use Rattle.cedar_typechecker_policies.specs.Checks.{is_irrelevant};
+
+    /// Whether the condition is False.
+    pub fn is_irrelevant(&self) -> bool
+        ensures { result ≡ is_irrelevant (verdict_seen self.now) }
+    {
+        match self {
+            PolicyCheck::Irrelevant(_, _) => true,
+            PolicyCheck::Success(_) | PolicyCheck::Fail(_) => false,
+        }
+    }
+}
+
 // The check of which this is known: without a type there is no verdict but failing.
 #[tactic(auto, using(crate::proofs::Said::says_irrelevant, crate::proofs::Said::says_success, crate::proofs::Said::says_fail, crate::proofs::Said::says_untyped))]
 fn policy_check(checked: Checked) -> PolicyCheck
@@ -64,7 +78,7 @@ pub(crate) fn check_said<S: TypingSchema>(
 ) -> Result<PolicyCheck, AllocError>
     ensures { IfOk result (CheckSays (setting_of S.schema S.table world.now) (condition (template_of template.now)) (template_of template.now).id) }
 {
-    let checked = check_condition(alloc, world, template)?;
+    let checked = check_condition(alloc, world, template.id(), template.condition())?;
     Ok(policy_check(checked))
 }
 

@@ -4,9 +4,8 @@ ghost use Rattle.std.specs.Prelude.{◌≡◌, true, None, IfOk, MatchOption};
 ghost use Rattle.std.specs.List.{list_all};
 ghost use Rattle.cedar_expr_model.specs.Lists.{is_nil};
 ghost use Rattle.cedar_expr_model.specs.Tree.{Tree};
-ghost use Rattle.cedar_store_model.specs.Policy.{condition};
+ghost use Rattle.cedar_expr_trees.specs.Trees.{tree_of};
 ghost use Rattle.cedar_store_parts.specs.Parts.{id_text};
-ghost use Rattle.cedar_store_policies.specs.Templates.{template_of};
 ghost use Rattle.cedar_typechecker_policies.specs.Conditions.{IsTypedAs, IsVerdictOf};
 ghost use Rattle.cedar_typechecker_environments.specs.Settings.{setting_of};
 ghost use Rattle.cedar_typechecker_model.specs.Facts.{no_facts};
@@ -15,13 +14,13 @@ ghost use Rattle.cedar_typechecker_model.specs.Typing.{type_of};
 ghost use Rattle.cedar_typechecker_policies.specs.Checks.{IsChecked, is_error_of};
 ghost use Rattle.cedar_typechecker_model.specs.Typed.{typed};
 
+use crate::condition::typed_condition;
 use crate::errors::errors_of;
-use crate::{Verdict, no_bool, typed_condition, verdict_of};
+use crate::verdict::{Verdict, no_bool, verdict_of};
 use cedar_expr_names::Loc;
 use cedar_expr_trees::Expr;
 use cedar_schema_types::Type;
 use cedar_store_parts::{PolicyID, ValidationError};
-use cedar_store_policies::Template;
 use cedar_typechecker_answers::Faults;
 use cedar_typechecker_environments::{TypingSchema, World};
 use cedar_typechecker_model::typed_laws::typed_as_judged;
@@ -68,20 +67,20 @@ fn errors_unless(
     }
 }
 
-// The policy's condition, typed, with its verdict and what is wrong with it.
+// This condition of the policy, typed, with its verdict and what is wrong with it.
 pub(crate) fn check_condition<S: TypingSchema>(
     alloc: Global,
     world: &World<'_, S>,
-    template: &Template,
+    policy_id: &PolicyID,
+    condition: &Expr,
 ) -> Result<Checked, AllocError>
-    ensures { IfOk result (IsChecked (setting_of S.schema S.table world.now) (condition (template_of template.now)) (template_of template.now).id) }
+    ensures { IfOk result (IsChecked (setting_of S.schema S.table world.now) (tree_of condition.now) (id_text policy_id.now)) }
 {
-    let condition = template.condition();
     let place = condition.source_loc();
     let mut faults = Vec::new(alloc);
     let typed = typed_condition(alloc, world, &mut faults, condition)?;
     let verdict = verdict_on(&typed);
-    let errors = errors_unless(alloc, verdict.is_bool, template.id(), faults, place)?;
+    let errors = errors_unless(alloc, verdict.is_bool, policy_id, faults, place)?;
     Ok(Checked {
         verdict,
         typed,

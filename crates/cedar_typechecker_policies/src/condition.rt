@@ -26,7 +26,7 @@ fn with_type(expr: Expr<Option<Type>>) -> Option<Expr<Option<Type>>>
 }
 
 /// The condition with the types of its parts, if it has one itself. If it has none, what is wrong with it is put behind the faults.
-pub fn typed_condition<S: TypingSchema>(
+pub(crate) fn typed_condition<S: TypingSchema>(
     alloc: Global,
     world: &World<'_, S>,
     faults: &mut Faults,

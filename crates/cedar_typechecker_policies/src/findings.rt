@@ -1,48 +1,68 @@
-//! What typing says of a policy over environments.
+//! What typing and levels say of a policy over its environments.
 
-ghost use Rattle.std.specs.Prelude.{◌≡◌, true, ◌&&◌, ◌++◌, ◌∷◌, [], List, map, IfOk, OnOk};
+ghost use Rattle.std.specs.Prelude.{◌≡◌, true, not, ◌&&◌, ◌||◌, ◌++◌, ◌∷◌, [], List, map, IfOk, OnOk};
 ghost use Rattle.cedar_schema_joins.specs.Modes.{mode_of};
-ghost use Rattle.cedar_expr_model.specs.Table.{Table};
 ghost use Rattle.cedar_schema_model.specs.Environment.{Environment};
-ghost use Rattle.cedar_schema_model.specs.Schema.{Schema};
-ghost use Rattle.cedar_schema_model.specs.Types.{Mode};
-ghost use Rattle.cedar_store_model.specs.Policy.{Policy, condition};
 ghost use Rattle.cedar_store_policies.specs.Templates.{template_of};
 ghost use Rattle.cedar_typechecker_environments.specs.Settings.{environment_of};
-ghost use Rattle.cedar_typechecker_model.specs.Verdicts.{in_mode, policy_environments};
-ghost use Rattle.cedar_typechecker_policies.specs.Checks.{IsChecked};
-ghost use Rattle.cedar_typechecker_policies.specs.Findings.{ChecksOver};
+ghost use Rattle.cedar_typechecker_model.specs.Verdicts.{policy_environments};
+ghost use Rattle.cedar_typechecker_policies.specs.Findings.{ChecksOver, policy_in, level_in};
+ghost use Rattle.cedar_typechecker_policies.specs.Violations.{level_of};
 
-use crate::Verdict;
-use crate::checked::{Checked, check_condition};
+use crate::bindings::fits;
+use crate::checked::check_condition;
+use crate::verdict::Verdict;
+use crate::violations::{PolicyViolation, add_reached_of};
 use cedar_schema_joins::ValidationMode;
-use cedar_store_parts::ValidationError;
+use cedar_store_parts::{PolicyID, SlotEnv, ValidationError};
 use cedar_store_policies::Template;
 use cedar_typechecker_environments::{RequestEnv, TypingSchema, World};
+use cedar_typechecker_levels::EntityDerefLevel;
 use cedar_typechecker_scopes::{SchemaEnvironments, policy_environments};
 use std::alloc::{AllocError, Global};
 
-// What typing says of a policy.
+/// A policy that is checked.
+#[derive(Clone, Copy)]
+pub struct Subject<'a> {
+    /// Its id.
+    pub id: &'a PolicyID,
+    /// Its template.
+    pub template: &'a Template,
+    /// What its slots are bound to.
+    pub bound: &'a SlotEnv,
+    /// The level beyond which it may not reach, if that is asked.
+    pub level: Option<EntityDerefLevel>,
+}
+
+/// What typing and levels say of a policy.
 #[derive(Drop)]
-pub(crate) struct Findings {
-    // Whether its condition is True, False or Bool in each environment.
-    pub(crate) passes: bool,
-    // Whether its condition is False in each environment.
-    pub(crate) is_warned: bool,
-    // What is wrong with it.
-    pub(crate) errors: Vec<ValidationError>,
+pub struct PolicyFindings {
+    /// Whether its condition is True, False or Bool in each environment.
+    pub passes: bool,
+    /// Whether its condition is False in each environment.
+    pub is_warned: bool,
+    /// Whether its condition is False in each environment that fits what its slots are bound to.
+    pub is_impossible: bool,
+    /// What is wrong with it by typing.
+    pub errors: Vec<ValidationError>,
+    /// Where it reaches further than the level, if there is one, in each environment in which its condition has a type.
+    pub violations: Vec<PolicyViolation>,
 }
 
 // Nothing said yet.
-pub(crate) fn nothing_found(alloc: Global) -> Findings
+fn nothing_found(alloc: Global) -> PolicyFindings
     ensures passes { result.passes ≡ true }
     ensures warned { result.is_warned ≡ true }
+    ensures impossible { result.is_impossible ≡ true }
     ensures errors { result.errors.items ≡ [] }
+    ensures violations { result.violations.items ≡ [] }
 {
-    Findings {
+    PolicyFindings {
         passes: true,
         is_warned: true,
+        is_impossible: true,
         errors: Vec::new(alloc),
+        violations: Vec::new(alloc),
     }
 }
 
@@ -59,69 +79,86 @@ pub(crate) fn add_errors(
     Ok(())
 }
 
-// Adds a verdict in one more environment.
-pub(crate) fn add_verdict(found: &mut Findings, verdict: Verdict)
+// Adds the verdict of one more environment, which fits what the slots are bound to or doesn't.
+fn add_verdict(found: &mut PolicyFindings, verdict: Verdict, fits: bool)
     ensures passes { found.new.passes ≡ (found.old.passes && verdict.is_bool) }
     ensures warned { found.new.is_warned ≡ (found.old.is_warned && verdict.is_false) }
+    ensures impossible { found.new.is_impossible ≡ (found.old.is_impossible && (not fits || verdict.is_false)) }
     ensures errors { found.new.errors ≡ found.old.errors }
+    ensures violations { found.new.violations ≡ found.old.violations }
 {
     found.passes = found.passes && verdict.is_bool;
     found.is_warned = found.is_warned && verdict.is_false;
+    found.is_impossible = found.is_impossible && (!fits || verdict.is_false);
 }
 
-// Adds what is known of the condition in one more environment.
-pub(crate) fn add_checked(found: &mut Findings, checked: Checked) -> Result<(), AllocError>
-    ensures { OnOk result ((m : Mode) (s : Schema) (x : Table) (p : Policy) (es : List Environment) (e : Environment) → IsChecked (in_mode m s x e) (condition p) p.id checked → ChecksOver m s x p es found.old → ChecksOver m s x p (es ++ e ∷ []) found.new) }
-{
-    add_verdict(found, checked.verdict);
-    add_errors(&mut found.errors, checked.errors)?;
-    Ok(())
-}
-
-// Adds what typing says of the policy in one more environment.
+// Adds what typing and levels say of the policy in one more environment.
 fn add_environment<S: TypingSchema>(
     alloc: Global,
     schema: &S,
     mode: ValidationMode,
-    template: &Template,
+    policy: &Subject<'_>,
     env: &RequestEnv,
-    found: &mut Findings,
+    found: &mut PolicyFindings,
 ) -> Result<(), AllocError>
-    ensures { OnOk result ((es : List Environment) → ChecksOver (mode_of mode) (S.schema schema.now) (S.table schema.now) (template_of template.now) es found.old → ChecksOver (mode_of mode) (S.schema schema.now) (S.table schema.now) (template_of template.now) (es ++ environment_of env.now ∷ []) found.new) }
+    ensures { OnOk result ((es : List Environment) → ChecksOver (level_in policy.now) (mode_of mode) (S.schema schema.now) (S.table schema.now) (policy_in policy.now) es found.old → ChecksOver (level_in policy.now) (mode_of mode) (S.schema schema.now) (S.table schema.now) (policy_in policy.now) (es ++ environment_of env.now ∷ []) found.new) }
 {
     let world = World { schema, mode, env };
-    let checked = check_condition(alloc, &world, template)?;
-    add_checked(found, checked)?;
+    let checked = check_condition(alloc, &world, policy.id, policy.template.condition())?;
+    add_verdict(found, checked.verdict, fits(policy.bound, env));
+    let violations = &mut found.violations;
+    add_reached_of(alloc, &world, policy.level, policy.id, &checked, violations)?;
+    add_errors(&mut found.errors, checked.errors)?;
     Ok(())
 }
 
-// What typing says of the policy over these environments.
+// What typing and levels say of the policy over these environments.
 #[tactic(auto, using(crate::proofs::Over::checks_none))]
-fn typecheck_over<S: TypingSchema>(
+fn check_over<S: TypingSchema>(
     alloc: Global,
     schema: &S,
     mode: ValidationMode,
-    template: &Template,
+    policy: &Subject<'_>,
     envs: &[RequestEnv],
-) -> Result<Findings, AllocError>
-    ensures { IfOk result (ChecksOver (mode_of mode) (S.schema schema.now) (S.table schema.now) (template_of template.now) (map environment_of envs.now)) }
+) -> Result<PolicyFindings, AllocError>
+    ensures { IfOk result (ChecksOver (level_in policy.now) (mode_of mode) (S.schema schema.now) (S.table schema.now) (policy_in policy.now) (map environment_of envs.now)) }
 {
     let mut found = nothing_found(alloc);
     for env in envs {
-        add_environment(alloc, schema, mode, template, env, &mut found)?;
+        add_environment(alloc, schema, mode, policy, env, &mut found)?;
     }
     Ok(found)
 }
 
-// What typing says of the policy over its environments.
-pub(crate) fn typecheck_all<S: SchemaEnvironments>(
+/// What typing and levels say of the policy in a mode: its condition is typed once in each of its environments. Fails only when out of memory.
+pub fn check_policy<S: SchemaEnvironments>(
+    alloc: Global,
+    schema: &S,
+    mode: ValidationMode,
+    policy: &Subject<'_>,
+) -> Result<PolicyFindings, AllocError>
+    ensures { IfOk result (ChecksOver (level_in policy.now) (mode_of mode) (S.schema schema.now) (S.table schema.now) (policy_in policy.now) (policy_environments (S.schema schema.now) (policy_in policy.now))) }
+{
+    let envs = policy_environments(alloc, schema, policy.template)?;
+    check_over(alloc, schema, mode, policy, envs.as_slice())
+}
+
+// What typing says of the template in a mode, and levels where there is one.
+pub(crate) fn check_template<S: SchemaEnvironments>(
     alloc: Global,
     schema: &S,
     mode: ValidationMode,
     template: &Template,
-) -> Result<Findings, AllocError>
-    ensures { IfOk result (ChecksOver (mode_of mode) (S.schema schema.now) (S.table schema.now) (template_of template.now) (policy_environments (S.schema schema.now) (template_of template.now))) }
+    level: Option<EntityDerefLevel>,
+) -> Result<PolicyFindings, AllocError>
+    ensures { IfOk result (ChecksOver (level_of level) (mode_of mode) (S.schema schema.now) (S.table schema.now) (template_of template.now) (policy_environments (S.schema schema.now) (template_of template.now))) }
 {
-    let envs = policy_environments(alloc, schema, template)?;
-    typecheck_over(alloc, schema, mode, template, envs.as_slice())
+    let bound = SlotEnv::new();
+    let policy = Subject {
+        id: template.id(),
+        template,
+        bound: &bound,
+        level,
+    };
+    check_policy(alloc, schema, mode, &policy)
 }

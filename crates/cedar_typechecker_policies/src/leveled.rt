@@ -1,177 +1,59 @@
 //! Policies whose levels are counted.
 
-ghost use Rattle.std.specs.Prelude.{◌≡◌, ◌++◌, ◌∷◌, [], List, map, IfOk, OnOk};
-ghost use Rattle.cedar_expr_trees.specs.Trees.{tree_of};
+ghost use Rattle.std.specs.Prelude.{◌≡◌, ◌++◌, [], map, IfOk, OnOk};
 ghost use Rattle.cedar_schema_joins.specs.Modes.{mode_of};
-ghost use Rattle.cedar_schema_model.specs.Environment.{Environment};
 ghost use Rattle.cedar_schema_model.specs.Types.{strict};
-ghost use Rattle.cedar_store_model.specs.Policy.{condition};
-ghost use Rattle.cedar_store_parts.specs.Parts.{id_text};
 ghost use Rattle.cedar_store_policies.specs.Templates.{template_of, template_loc};
 ghost use Rattle.cedar_store_parts.specs.Views.{warning_of};
-ghost use Rattle.cedar_typechecker_environments.specs.Settings.{environment_of, setting_of};
-ghost use Rattle.cedar_typechecker_levels.specs.Marked.{marks_of};
-ghost use Rattle.cedar_typechecker_levels.specs.Views.{violation_of};
-ghost use Rattle.cedar_typechecker_model.specs.Verdicts.{policy_environments};
-ghost use Rattle.cedar_typechecker_policies.specs.Checks.{IsChecked};
-ghost use Rattle.cedar_typechecker_policies.specs.Findings.{LevelsOver, reached_by, violated, warned_as};
+ghost use Rattle.cedar_typechecker_policies.specs.Findings.{warned_as};
 ghost use Rattle.cedar_typechecker_policies.specs.Found.{FindsErrors, FindsWarnings, scope_blames, asked_in};
 ghost use Rattle.cedar_typechecker_policies.specs.Sound.{ForAlike, PolicyMeansTruth, LooksInReach};
+ghost use Rattle.cedar_typechecker_policies.specs.Violations.{blame_told};
 ghost use Rattle.cedar_typechecker_scopes.specs.Applying.{application_warnings};
 ghost use Rattle.cedar_typechecker_scopes.specs.Faults.{blame_of};
-ghost use Rattle.cedar_typechecker_model.specs.Counts.{violations_at};
 
-use crate::checked::{Checked, check_condition};
-use crate::findings::{Findings, add_checked, add_errors, nothing_found};
+use crate::findings::{PolicyFindings, add_errors, check_template};
 use crate::policy::warning_for;
-use cedar_expr_trees::Expr;
+use crate::violations::PolicyViolation;
 use cedar_schema_joins::ValidationMode;
-use cedar_schema_types::Type;
-use cedar_store_parts::{PolicyID, ValidationError, ValidationErrorKind, ValidationWarning};
+use cedar_store_parts::{ValidationError, ValidationErrorKind, ValidationWarning};
 use cedar_store_policies::Template;
-use cedar_typechecker_environments::{RequestEnv, TypingSchema, World};
-use cedar_typechecker_levels::{EntityDerefLevel, LevelViolation, level_violations};
-use cedar_typechecker_model::typed_laws::{counted_on_marks, typed_as_judged};
+use cedar_typechecker_levels::EntityDerefLevel;
 use cedar_typechecker_scopes::{
-    SchemaEnvironments, ScopeSchema, policy_environments, validate_action_ids,
-    validate_entity_types, validate_enum_entity, validate_template_action_application,
+    ScopeSchema, validate_action_ids, validate_entity_types, validate_enum_entity,
+    validate_template_action_application,
 };
 use std::alloc::{AllocError, Global};
 
-// What typing and levels say of a policy.
-#[derive(Drop)]
-pub(crate) struct Leveled {
-    // What typing says.
-    pub(crate) found: Findings,
-    // Where it reaches too far.
-    pub(crate) reached: Vec<ValidationError>,
-}
-
-// Puts the violation behind the errors, as one of the policy.
-fn add_violation(
-    errors: &mut Vec<ValidationError>,
-    policy_id: &PolicyID,
-    violation: &LevelViolation<'_>,
-) -> Result<(), AllocError>
-    ensures { OnOk result (map blame_of errors.new.items ≡ map blame_of errors.old.items ++ reached_by (id_text policy_id.now) (violation_of violation.now) ∷ []) }
+// What is said of the violation.
+fn level_error(violation: PolicyViolation) -> ValidationError
+    ensures { blame_of result ≡ blame_told violation }
 {
-    let policy_id = policy_id.clone()?;
-    let source_loc = violation.at.source_loc();
-    let kind = ValidationErrorKind::EntityDerefLevelViolation(violation.required);
-    errors.push(ValidationError {
+    let PolicyViolation {
+        policy_id,
+        expr,
+        required,
+    } = violation;
+    let source_loc = expr.source_loc();
+    let kind = ValidationErrorKind::EntityDerefLevelViolation(required);
+    ValidationError {
         policy_id,
         source_loc,
         kind,
-    })?;
-    Ok(())
+    }
 }
 
-// Puts these violations behind the errors, as errors of the policy.
+// Puts what is said of these violations behind the errors.
 fn add_violations(
     errors: &mut Vec<ValidationError>,
-    policy_id: &PolicyID,
-    violations: &[LevelViolation<'_>],
+    violations: Vec<PolicyViolation>,
 ) -> Result<(), AllocError>
-    ensures { OnOk result (map blame_of errors.new.items ≡ map blame_of errors.old.items ++ map (λ v. reached_by (id_text policy_id.now) (violation_of v)) violations.now) }
+    ensures { OnOk result (map blame_of errors.new.items ≡ map blame_of errors.old.items ++ map blame_told violations.items) }
 {
     for violation in violations {
-        add_violation(errors, policy_id, violation)?;
+        errors.push(level_error(violation))?;
     }
     Ok(())
-}
-
-// Puts the violations of the policy's typed condition behind the errors.
-fn add_reached<S: TypingSchema>(
-    alloc: Global,
-    world: &World<'_, S>,
-    level: EntityDerefLevel,
-    template: &Template,
-    typed: &Expr<Option<Type>>,
-    errors: &mut Vec<ValidationError>,
-) -> Result<(), AllocError>
-    ensures { OnOk result (map blame_of errors.new.items ≡ map blame_of errors.old.items ++ map (reached_by (template_of template.now).id) (violations_at level.level (setting_of S.schema S.table world.now) (tree_of typed.now) (marks_of typed.now))) }
-{
-    let violations = level_violations(alloc, world, level, typed)?;
-    add_violations(errors, template.id(), violations.as_slice())?;
-    Ok(())
-}
-
-// Puts the violations of the policy's condition behind the errors, if it has a type.
-fn add_reached_of<S: TypingSchema>(
-    alloc: Global,
-    world: &World<'_, S>,
-    level: EntityDerefLevel,
-    template: &Template,
-    checked: &Checked,
-    errors: &mut Vec<ValidationError>,
-) -> Result<(), AllocError>
-    ensures { OnOk result (IsChecked (setting_of S.schema S.table world.now) (condition (template_of template.now)) (template_of template.now).id checked.now → map blame_of errors.new.items ≡ map blame_of errors.old.items ++ map (reached_by (template_of template.now).id) (violated level.level (setting_of S.schema S.table world.now) (condition (template_of template.now)))) }
-{
-    typed_as_judged();
-    counted_on_marks();
-    match &checked.typed {
-        Some(typed) => {
-            add_reached(alloc, world, level, template, typed, errors)?;
-            Ok(())
-        }
-        None => Ok(()),
-    }
-}
-
-// Adds what typing and levels say of the policy in one more environment.
-fn add_environment<S: TypingSchema>(
-    alloc: Global,
-    schema: &S,
-    mode: ValidationMode,
-    level: EntityDerefLevel,
-    template: &Template,
-    env: &RequestEnv,
-    leveled: &mut Leveled,
-) -> Result<(), AllocError>
-    ensures { OnOk result ((es : List Environment) → LevelsOver level.level (mode_of mode) (S.schema schema.now) (S.table schema.now) (template_of template.now) es leveled.old → LevelsOver level.level (mode_of mode) (S.schema schema.now) (S.table schema.now) (template_of template.now) (es ++ environment_of env.now ∷ []) leveled.new) }
-{
-    let world = World { schema, mode, env };
-    let checked = check_condition(alloc, &world, template)?;
-    let reached = &mut leveled.reached;
-    add_reached_of(alloc, &world, level, template, &checked, reached)?;
-    add_checked(&mut leveled.found, checked)?;
-    Ok(())
-}
-
-// What typing and levels say of the policy over these environments.
-#[tactic(auto, using(crate::proofs::Over::levels_none, crate::proofs::Over::checks_none))]
-fn validate_over<S: TypingSchema>(
-    alloc: Global,
-    schema: &S,
-    mode: ValidationMode,
-    level: EntityDerefLevel,
-    template: &Template,
-    envs: &[RequestEnv],
-) -> Result<Leveled, AllocError>
-    ensures { IfOk result (LevelsOver level.level (mode_of mode) (S.schema schema.now) (S.table schema.now) (template_of template.now) (map environment_of envs.now)) }
-{
-    let mut leveled = Leveled {
-        found: nothing_found(alloc),
-        reached: Vec::new(alloc),
-    };
-    for env in envs {
-        add_environment(alloc, schema, mode, level, template, env, &mut leveled)?;
-    }
-    Ok(leveled)
-}
-
-// What typing and levels say of the policy over its environments: its condition is typed once in each.
-fn validate_all<S: SchemaEnvironments>(
-    alloc: Global,
-    schema: &S,
-    mode: ValidationMode,
-    level: EntityDerefLevel,
-    template: &Template,
-) -> Result<Leveled, AllocError>
-    ensures { IfOk result (LevelsOver level.level (mode_of mode) (S.schema schema.now) (S.table schema.now) (template_of template.now) (policy_environments (S.schema schema.now) (template_of template.now))) }
-{
-    let envs = policy_environments(alloc, schema, template)?;
-    validate_over(alloc, schema, mode, level, template, envs.as_slice())
 }
 
 /// What is wrong with a policy, and what is odd about it.
@@ -232,16 +114,15 @@ fn gathered<S: ScopeSchema>(
     alloc: Global,
     schema: &S,
     template: &Template,
-    leveled: Leveled,
+    found: PolicyFindings,
 ) -> Result<Validated, AllocError>
-    ensures errors { IfOk result (λ v. map blame_of v.errors.items ≡ (scope_blames (S.schema schema.now) (template_of template.now) ++ map blame_of leveled.found.errors.items) ++ map blame_of leveled.reached.items) }
-    ensures warnings { IfOk result (λ v. map warning_of v.warnings.items ≡ warned_as (template_of template.now).id (template_loc template.now) leveled.found.is_warned ++ application_warnings (S.schema schema.now) (template_of template.now).id (template_loc template.now) (asked_in (template_of template.now))) }
+    ensures errors { IfOk result (λ v. map blame_of v.errors.items ≡ (scope_blames (S.schema schema.now) (template_of template.now) ++ map blame_of found.errors.items) ++ map blame_told found.violations.items) }
+    ensures warnings { IfOk result (λ v. map warning_of v.warnings.items ≡ warned_as (template_of template.now).id (template_loc template.now) found.is_warned ++ application_warnings (S.schema schema.now) (template_of template.now).id (template_loc template.now) (asked_in (template_of template.now))) }
 {
-    let Leveled { found, reached } = leveled;
     let warnings = all_warnings(alloc, schema, template, found.is_warned)?;
     let mut errors = scope_errors(alloc, schema, template)?;
     add_errors(&mut errors, found.errors)?;
-    add_errors(&mut errors, reached)?;
+    add_violations(&mut errors, found.violations)?;
     Ok(Validated { errors, warnings })
 }
 
@@ -261,6 +142,6 @@ pub fn validate_policy_with_level<S: ScopeSchema>(
     ensures sound { mode_of mode ≡ strict → IfOk result (λ v. v.errors.items ≡ [] → ForAlike (S.schema schema.now) (S.table schema.now) (PolicyMeansTruth (template_of template.now))) }
     ensures reach { mode_of mode ≡ strict → IfOk result (λ v. v.errors.items ≡ [] → ForAlike (S.schema schema.now) (S.table schema.now) (LooksInReach max_deref_level.level (template_of template.now))) }
 {
-    let leveled = validate_all(alloc, schema, mode, max_deref_level, template)?;
-    gathered(alloc, schema, template, leveled)
+    let found = check_template(alloc, schema, mode, template, Some(max_deref_level))?;
+    gathered(alloc, schema, template, found)
 }

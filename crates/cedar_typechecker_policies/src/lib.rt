@@ -3,6 +3,7 @@
 //! typing and of slices promise then. Used by `cedar_typechecker`, which gives it out for built schemas.
 #![tactic(auto)]
 
+mod bindings;
 mod check;
 mod checked;
 mod checks;
@@ -13,10 +14,12 @@ mod leveled;
 mod policy;
 mod sets;
 mod verdict;
+mod violations;
 
+pub use bindings::fits;
 pub use check::{PolicyCheck, check_in};
 pub use checks::RequestEnvChecks;
-pub use condition::typed_condition;
+pub use findings::{PolicyFindings, Subject, check_policy};
 pub use leveled::{Validated, validate_policy_with_level};
 pub use policy::typecheck_policy;
-pub use verdict::{Verdict, no_bool, verdict_of};
+pub use violations::PolicyViolation;

@@ -12,7 +12,7 @@ ghost use Rattle.cedar_typechecker_policies.specs.Findings.{warned_as};
 ghost use Rattle.cedar_typechecker_policies.specs.Found.{GainsErrors, GainsWarnings};
 ghost use Rattle.cedar_typechecker_policies.specs.Sound.{ForAlike, PolicyMeansTruth};
 
-use crate::findings::{Findings, typecheck_all};
+use crate::findings::{PolicyFindings, check_template};
 use crate::sets::add_all;
 use cedar_schema_joins::ValidationMode;
 use cedar_store_parts::{ValidationError, ValidationWarning};
@@ -46,7 +46,7 @@ pub(crate) fn warning_for(
 fn put_findings(
     alloc: Global,
     template: &Template,
-    found: Findings,
+    found: PolicyFindings,
     type_errors: &mut HashSet<ValidationError>,
     warnings: &mut HashSet<ValidationWarning>,
 ) -> Result<bool, AllocError>
@@ -56,10 +56,12 @@ fn put_findings(
     ensures errors_kept { OnErr result (IsSameSet ⟦<ValidationError as PartialEq>⟧.eq type_errors.new type_errors.old) }
     ensures warnings_kept { OnErr result (IsSameSet ⟦<ValidationWarning as PartialEq>⟧.eq warnings.new warnings.old) }
 {
-    let Findings {
+    let PolicyFindings {
         passes,
         is_warned,
+        is_impossible: _,
         errors,
+        violations: _,
     } = found;
     let warned = warning_for(alloc, template, is_warned)?;
     type_errors.reserve(errors.len())?;
@@ -88,6 +90,6 @@ pub fn typecheck_policy<S: SchemaEnvironments>(
     ensures warnings_kept { OnErr result (IsSameSet ⟦<ValidationWarning as PartialEq>⟧.eq warnings.new warnings.old) }
     ensures sound { mode_of mode ≡ strict → IfOk result (λ b. b ≡ true → ForAlike (S.schema schema.now) (S.table schema.now) (PolicyMeansTruth (template_of template.now))) }
 {
-    let found = typecheck_all(alloc, schema, mode, template)?;
+    let found = check_template(alloc, schema, mode, template, None)?;
     put_findings(alloc, template, found, type_errors, warnings)
 }

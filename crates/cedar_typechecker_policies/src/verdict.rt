@@ -8,15 +8,15 @@ use cedar_schema_types::{BoolType, Type};
 
 /// What typing says of a condition in an environment.
 #[derive(Clone, Copy)]
-pub struct Verdict {
+pub(crate) struct Verdict {
     /// It has a type of truth values.
-    pub is_bool: bool,
+    pub(crate) is_bool: bool,
     /// It has the type False.
-    pub is_false: bool,
+    pub(crate) is_false: bool,
 }
 
 /// What this type of a condition says.
-pub fn verdict_of(ty: &Option<Type>) -> Verdict
+pub(crate) fn verdict_of(ty: &Option<Type>) -> Verdict
     ensures { IsVerdictOf (option_map type_of ty.now) result }
 {
     match ty {
@@ -37,7 +37,7 @@ pub fn verdict_of(ty: &Option<Type>) -> Verdict
 }
 
 /// What a type of no truth values says, or none.
-pub fn no_bool() -> Verdict
+pub(crate) fn no_bool() -> Verdict
     ensures { result ≡ record { is_bool = false; is_false = false } }
 {
     Verdict {

@@ -1,6 +1,6 @@
 use Rattle.cedar_expr_functions.specs.Tables.{functions_of, ordered_of}
 use Rattle.cedar_gate_accepted.proofs.ChecksTogether.{as_submitted, as_policies, as_seen, as_declared, all_asked}
-use Rattle.cedar_gate_rules.specs.Causes.{IsRefusedFor}
+use Rattle.cedar_gate_accepted.specs.Causes.{IsRefusedFor}
 use Rattle.cedar_gate_fragments.specs.Written.{declared_by}
 use Rattle.cedar_gate_rules.specs.Limit.{levels_of}
 use Rattle.cedar_gate_rules.specs.Policies.{policies_of}
@@ -12,6 +12,12 @@ pub returns-in_err-schema-clause-refused : goal.returns-in_err-schema-clause-ref
 returns-in_err-schema-clause-refused g c =
     λ s w. handed (IsRefusedFor s) c.in_err-schema.field-0.0 c.from_residual.result c.from_residual.ensures.1
     (c.in_err-schema.ensures.refused s (as_submitted (declared_by c.args.fragments.now) (policies_of c.args.policies.now) (functions_of c.args.table.now) (ordered_of c.args.table.now) (levels_of c.args.limit) s w))
+
+pub returns-in_err-check_policies-clause-refused : goal.returns-in_err-check_policies-clause-refused
+returns-in_err-check_policies-clause-refused g c =
+    λ s w. handed (IsRefusedFor s) c.in_err-check_policies.field-0.0 c.from_residual-in_err-check_policies.result c.from_residual-in_err-check_policies.ensures.1
+    (c.in_err-check_policies.ensures.refused s
+    (as_policies (declared_by c.args.fragments.now) (policies_of c.args.policies.now) (functions_of c.args.table.now) (ordered_of c.args.table.now) (levels_of c.args.limit) s w))
 
 pub returns-in_err-check_by-clause-refused : goal.returns-in_err-check_by-clause-refused
 returns-in_err-check_by-clause-refused g c =

@@ -1,9 +1,9 @@
 use Rattle.std.proofs.Common.{◌≡◌, ◌++◌, map}
 use Rattle.std.specs.Vec.Iter.{into_iter_items}
-use Rattle.cedar_gate_accepted.specs.ViolationViews.{reach_of}
+use Rattle.cedar_typechecker_policies.specs.Violations.{violation_told}
 use Rattle.cedar_gate_accepted.proofs.checked.add_violations.Given as goal
 
 abbrev pub invariant-loop-violation : goal.invariant-loop-violation
 invariant-loop-violation l =
-    map reach_of l.found.items ++ map reach_of (into_iter_items l.violation-iterator)
-    ≡ map reach_of l.initial.found.items ++ map reach_of (into_iter_items l.initial.violation-iterator)
+    map violation_told l.found.items ++ map violation_told (into_iter_items l.violation-iterator)
+    ≡ map violation_told l.initial.found.items ++ map violation_told (into_iter_items l.initial.violation-iterator)

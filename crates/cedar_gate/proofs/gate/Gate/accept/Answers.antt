@@ -3,7 +3,7 @@ use Rattle.cedar_expr_functions.specs.Tables.{functions_of, ordered_of, table_of
 use Rattle.cedar_gate_accepted.specs.Handed.{IsHandedIn}
 use Rattle.cedar_gate_accepted.proofs.Tested.{kept_by_tests}
 use Rattle.cedar_gate_accepted.proofs.Together.{as_typed, all_accepted, schema_there}
-use Rattle.cedar_gate_rules.specs.Causes.{IsRefusedFor}
+use Rattle.cedar_gate_accepted.specs.Causes.{IsRefusedFor}
 use Rattle.cedar_gate.specs.Handed.{submission_with}
 use Rattle.cedar_gate_fragments.specs.Written.{declared_by}
 use Rattle.cedar_gate_model.specs.Acceptance.{Submission}
@@ -35,6 +35,11 @@ invariant_of-result g c =
           (c.in_ok-warnings.ensures.kept s
           (as_typed d (policies_of c.as_slice-2.result.now) y n s (subst P (sym c.as_slice-2.ensures.value) w) c.seen_schemas_answer_alike.ensures.declared k c.in_ok-schema.ensures.kept c.args.level refl));
     }
+
+pub returns-in_err-schema-clause-refused : goal.returns-in_err-schema-clause-refused
+returns-in_err-schema-clause-refused g c = λ s w l.
+    let P : List Policy → Type 0 = λ xs. IsHandedIn (declared_by c.args.fragments.now) (policies_of xs) (functions_of c.args.table.now) (ordered_of c.args.table.now) (levels_of c.args.limit) s in
+    handed (IsRefusedFor s) c.in_err-schema.field-0.0 c.from_residual.result c.from_residual.ensures.1 (c.in_err-schema.ensures.refused s (subst P (sym c.as_slice.ensures.value) w))
 
 pub returns-in_err-warnings-clause-refused : goal.returns-in_err-warnings-clause-refused
 returns-in_err-warnings-clause-refused g c = λ s w l.

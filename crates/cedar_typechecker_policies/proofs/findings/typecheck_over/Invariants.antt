@@ -1,9 +1,0 @@
-use Rattle.std.proofs.Common.{map, take}
-use Rattle.cedar_schema_joins.specs.Modes.{mode_of}
-use Rattle.cedar_store_policies.specs.Templates.{template_of}
-use Rattle.cedar_typechecker_environments.specs.Settings.{environment_of}
-use Rattle.cedar_typechecker_policies.specs.Findings.{ChecksOver}
-use Rattle.cedar_typechecker_policies.proofs.findings.typecheck_over.Given as goal
-
-abbrev pub invariant-loop-env : goal.invariant-loop-env
-invariant-loop-env g l = ChecksOver (mode_of l.mode) (g.S.DeclaredAttributes.schema l.schema) (g.S.TypingSchema.table l.schema) (template_of l.template) (map environment_of (take l.env-index l.envs)) l.found
