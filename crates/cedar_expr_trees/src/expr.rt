@@ -33,13 +33,16 @@ pub struct Expr<T = ()> {
 }
 
 // A drop of its own is one step to the proof of a function that may drop an expression; a derived one is a step for each field.
+// A chain of attributes is dropped by a loop: it may be as long as a bundle.
 impl<T: Drop> Drop for Expr<T> {
     fn drop(self) {
-        let Expr {
-            expr_kind: _,
-            source_loc: _,
-            data: _,
-        } = self;
+        let mut kind = self.into_expr_kind();
+        while let ExprKind::GetAttr { expr, attr: _ } = kind {
+            match Rc::into_inner(expr) {
+                Some(of) => kind = of.into_expr_kind(),
+                None => return,
+            }
+        }
     }
 }
 

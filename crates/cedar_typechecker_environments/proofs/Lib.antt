@@ -1,4 +1,6 @@
 mod Copies
+mod Falling
+pub mod Leading
 pub mod Members
 mod Merges
 mod Searched

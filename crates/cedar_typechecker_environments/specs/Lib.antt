@@ -2,3 +2,4 @@ pub mod Settings
 pub mod Signatures
 pub mod Facts
 pub mod Merged
+pub mod Along

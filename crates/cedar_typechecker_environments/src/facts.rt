@@ -4,7 +4,8 @@ ghost use Rattle.std.specs.Prelude.{◌≡◌, IfOk};
 ghost use Rattle.std.specs.Rc.{rc_str_bytes};
 ghost use Rattle.cedar_expr_trees.specs.Trees.{tree_of};
 ghost use Rattle.cedar_typechecker_model.specs.Facts.{no_facts, fact, union, intersection, attribute_part, tag_part};
-ghost use Rattle.cedar_typechecker_environments.specs.Facts.{capability_of, facts_of};
+ghost use Rattle.cedar_typechecker_environments.specs.Facts.{capability_of, facts_of, facts_among};
+ghost use Rattle.cedar_typechecker_environments.specs.Along.{AlongPath};
 
 use crate::sorted::SortedKeys;
 use cedar_expr_shapes::ExprShapeOnly;
@@ -120,6 +121,16 @@ impl<'a> CapabilitySet<'a> {
     {
         let capabilities = SortedKeys::singleton(alloc, e)?;
         Ok(CapabilitySet { capabilities })
+    }
+
+    /// These facts of attributes along a path, one after the other. Only the first two are compared.
+    pub fn along(facts: Vec<Capability<'a>>) -> CapabilitySet<'a>
+        requires { AlongPath facts.items }
+        ensures { facts_of result ≡ facts_among facts.entry.items }
+    {
+        CapabilitySet {
+            capabilities: SortedKeys::in_order(facts),
+        }
     }
 
     /// The facts of either set. Each set is gone along once.

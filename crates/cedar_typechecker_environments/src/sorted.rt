@@ -1,8 +1,10 @@
 //! Sets as lists in rising order.
 
-ghost use Rattle.std.specs.Prelude.{◌≡◌, ◌∷◌, [], IfOk};
+ghost use Rattle.std.specs.Prelude.{◌≡◌, ◌∷◌, [], Bool, IfOk};
+ghost use Rattle.std.specs.List.{list_any};
 ghost use Rattle.std.specs.Ordering.{eq_by_cmp};
 ghost use Rattle.std.specs.Set.{is_member, IsUnion, IsIntersection, ClonesAreEqual};
+ghost use Rattle.cedar_typechecker_environments.specs.Along.{RiseOrFall, first_falls};
 
 use crate::merging::{copies_of_both, copies_of_either};
 use std::alloc::{AllocError, Global};
@@ -44,6 +46,17 @@ impl<K: Ord + Drop> SortedKeys<K> {
         Ok(SortedKeys { keys })
     }
 
+    // These keys, which all rise or all fall.
+    pub(crate) fn in_order(mut keys: Vec<K>) -> SortedKeys<K>
+        requires { RiseOrFall K.cmp keys.items }
+        ensures { (test : K → Bool) → list_any test result ≡ list_any test keys.items }
+    {
+        if fall(keys.as_slice()) {
+            keys.reverse();
+        }
+        SortedKeys { keys }
+    }
+
     // Whether the key is among these, by halving.
     pub(crate) fn contains(&self, key: &K) -> bool
         ensures { result ≡ is_member (eq_by_cmp K.cmp) self.now key.now }
@@ -71,5 +84,15 @@ impl<K: Ord + Clone + Drop> SortedKeys<K> {
         let alloc = *self.keys.allocator();
         let keys = copies_of_both(alloc, self.keys.as_slice(), other.keys.as_slice())?;
         Ok(SortedKeys { keys })
+    }
+}
+
+// Whether the first key is above the second.
+fn fall<K: Ord>(keys: &[K]) -> bool
+    ensures { result ≡ first_falls K.cmp keys.now }
+{
+    match keys {
+        [first, second, ..] => first.cmp(second).is_gt(),
+        _ => false,
     }
 }

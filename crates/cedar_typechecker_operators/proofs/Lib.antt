@@ -4,3 +4,4 @@ pub mod PathTests
 pub mod ByKind
 pub mod InRows
 pub mod Smaller
+pub mod Ways

@@ -1,27 +1,28 @@
 //! Tests of paths of attributes.
 
-ghost use Rattle.std.specs.Prelude.{◌≡◌, map, option_map, option_and_then, IfOk};
+ghost use Rattle.std.specs.Prelude.{◌≡◌, ◌∷◌, [], map, option_map, option_and_then, IfOk};
 ghost use Rattle.std.specs.Rc.{rc_str_bytes};
 ghost use Rattle.cedar_expr_model.specs.Tree.{get_attr};
 ghost use Rattle.cedar_expr_trees.specs.Trees.{tree_of};
+ghost use Rattle.cedar_schema_model.specs.Types.{bool_type, only_false};
 ghost use Rattle.cedar_schema_types.specs.Kinds.{bool_type_of};
 ghost use Rattle.cedar_schema_types.specs.Types.{type_of};
-ghost use Rattle.cedar_typechecker_environments.specs.Facts.{capability_of, facts_of};
-ghost use Rattle.cedar_typechecker_model.specs.Facts.{fact as model_fact, attribute_part};
-ghost use Rattle.cedar_typechecker_model.specs.Typing.{path_judged, step_type as model_step_type, conjoined, tested as model_tested};
+ghost use Rattle.cedar_typechecker_environments.specs.Along.{AlongPath};
+ghost use Rattle.cedar_typechecker_environments.specs.Facts.{capability_of};
+ghost use Rattle.cedar_typechecker_model.specs.Facts.{no_facts, attribute_part};
+ghost use Rattle.cedar_typechecker_model.specs.Typing.{path_judged};
 ghost use Rattle.cedar_typechecker_environments.specs.Settings.{setting_of};
 ghost use Rattle.cedar_typechecker_model.specs.Typed.{path_typed};
 ghost use Rattle.cedar_typechecker_answers.specs.Answers.{seen, judgement_seen};
+ghost use Rattle.cedar_typechecker_operators.specs.Ways.{type_of_tests, tests_judged, judged_on, judged_past, IsOnPath, IsPast, IsNoted, PassesTo};
 
-use crate::operators::{attribute_there, tested};
+use crate::operators::attribute_there;
 use cedar_expr_leaves::NonEmpty;
 use cedar_expr_names::Loc;
 use cedar_expr_trees::{Expr, ExprKind};
 use cedar_schema_types::{BoolType, Type};
 use cedar_store_parts::ValidationErrorKind;
-use cedar_typechecker_answers::{
-    Faults, Judged, TypecheckAnswer, conjoined_bool, judged_node, no_type,
-};
+use cedar_typechecker_answers::{Faults, Judged, TypecheckAnswer, judged_node, no_type};
 use cedar_typechecker_environments::{Capability, CapabilitySet, TypingSchema, World};
 use cedar_typechecker_rules::step_type;
 use std::alloc::{AllocError, Global};
@@ -62,8 +63,23 @@ pub fn path_answer<'a, S: TypingSchema>(
     )
 }
 
+// The way along a path that is gone: the expression that it has come to, the type of that, and the facts of the tests on the way, in
+// its order. They all rise or all fall in the order of facts, so that no two need be compared but the first.
+#[derive(Drop)]
+struct Way<'a> {
+    at: Rc<Expr>,
+    ty: Type,
+    facts: Vec<Capability<'a>>,
+}
+
+// What a test on the way comes to: the judgement of the whole path, or the way gone on.
+#[derive(Drop)]
+enum Passed<'a> {
+    Done(Option<Judged<'a>>),
+    On(Way<'a>),
+}
+
 // The judgement of the test that the expression has the attribute, and that what it is has the further ones, one after the other.
-#[cycle(path)]
 fn path_judgement<'a, S: TypingSchema>(
     alloc: Global,
     world: &World<'_, S>,
@@ -74,42 +90,127 @@ fn path_judgement<'a, S: TypingSchema>(
 ) -> Result<Option<Judged<'a>>, AllocError>
     ensures { IfOk result (λ j. option_map judgement_seen j ≡ path_judged (setting_of S.schema S.table world.now) (rc_str_bytes attr.now) (map rc_str_bytes further.now) (tree_of of.now.value) (type_of ty.now)) }
 {
-    let there = attribute_there(world, ty, attr);
-    let Some((next, later)) = further.split_first() else {
-        return last_judgement(alloc, of, attr, there);
-    };
-    match there {
-        None => Ok(None),
-        Some(BoolType::False) => last_judgement(alloc, of, attr, Some(BoolType::False)),
-        Some(BoolType::True) => {
-            let rest = further_judgement(alloc, world, of, attr, next, later, ty)?;
-            joined(alloc, BoolType::True, CapabilitySet::new(alloc), rest)
+    let mut way = begun(alloc, of, ty)?;
+    let mut name = attr;
+    for next in further {
+        match past(alloc, world, way, name)? {
+            Passed::On(on) => way = on,
+            Passed::Done(judged) => return Ok(judged),
         }
-        Some(BoolType::AnyBool) => {
-            let rest = further_judgement(alloc, world, of, attr, next, later, ty)?;
-            joined(alloc, BoolType::AnyBool, fact_alone(alloc, of, attr)?, rest)
-        }
+        name = next;
+    }
+    ended(alloc, world, way, name)
+}
+
+// The way on which nothing is gone yet.
+fn begun<'a>(alloc: Global, of: &Rc<Expr>, ty: &Type) -> Result<Way<'a>, AllocError>
+    ensures { IfOk result (λ w. (tree_of w.at.value ≡ tree_of of.now.value) × (type_of w.ty ≡ type_of ty.now) × (w.facts.items ≡ [])) }
+{
+    Ok(Way {
+        at: of.clone()?,
+        ty: ty.clone()?,
+        facts: Vec::new(alloc),
+    })
+}
+
+// The way past the test of the attribute, which others follow.
+fn past<'a, S: TypingSchema>(
+    alloc: Global,
+    world: &World<'_, S>,
+    way: Way<'a>,
+    attr: &RcStr,
+) -> Result<Passed<'a>, AllocError>
+    requires { IsOnPath way }
+    ensures { IfOk result (PassesTo (setting_of S.schema S.table world.now) (λ b bs. judged_on (setting_of S.schema S.table world.now) way.entry (rc_str_bytes attr.now) (b ∷ bs))) }
+{
+    match attribute_there(world, &way.ty, attr) {
+        None => Ok(Passed::Done(None)),
+        Some(BoolType::False) => Ok(Passed::Done(Some(never(alloc)))),
+        Some(BoolType::True) => gone_on(alloc, world, way, attr),
+        Some(BoolType::AnyBool) => gone_on(alloc, world, noted(way, attr)?, attr),
     }
 }
 
-// The judgement of the further tests on the attribute's value, if the attribute is declared.
-#[cycle(path)]
-fn further_judgement<'a, S: TypingSchema>(
+// The way gone on to the attribute's value, if the attribute is declared.
+fn gone_on<'a, S: TypingSchema>(
     alloc: Global,
     world: &World<'_, S>,
-    of: &Rc<Expr>,
+    way: Way<'a>,
     attr: &RcStr,
-    next: &RcStr,
-    later: &[RcStr],
-    ty: &Type,
-) -> Result<Option<Judged<'a>>, AllocError>
-    ensures { IfOk result (λ j. option_map judgement_seen j ≡ option_and_then (path_judged (setting_of S.schema S.table world.now) (rc_str_bytes next.now) (map rc_str_bytes later.now) (get_attr (tree_of of.now.value) (rc_str_bytes attr.now))) (model_step_type (setting_of S.schema S.table world.now) (type_of ty.now) (rc_str_bytes attr.now))) }
+) -> Result<Passed<'a>, AllocError>
+    requires { IsPast way (rc_str_bytes attr.now) }
+    ensures { IfOk result (PassesTo (setting_of S.schema S.table world.now) (judged_past (setting_of S.schema S.table world.now) way.entry (rc_str_bytes attr.now))) }
 {
-    let Some(step) = step_type(alloc, world, ty, attr.as_str())? else {
-        return Ok(None);
+    let Some(ty) = step_type(alloc, world, &way.ty, attr.as_str())? else {
+        return Ok(Passed::Done(None));
     };
-    let of = attribute_of(alloc, of, attr)?;
-    path_judgement(alloc, world, &of, next, later, &step)
+    let Way { at, ty: _, facts } = way;
+    let at = attribute_of(alloc, &at, attr)?;
+    Ok(Passed::On(Way { at, ty, facts }))
+}
+
+// The way with the fact that the expression that it has come to has the attribute.
+fn noted<'a>(way: Way<'a>, attr: &RcStr) -> Result<Way<'a>, AllocError>
+    ensures { IfOk result (IsNoted way.entry (rc_str_bytes attr.now)) }
+{
+    let Way { at, ty, mut facts } = way;
+    facts.push(fact(&at, attr)?)?;
+    Ok(Way { at, ty, facts })
+}
+
+// The judgement of the whole path by the way gone and the test of the attribute, which is the last.
+fn ended<'a, S: TypingSchema>(
+    alloc: Global,
+    world: &World<'_, S>,
+    way: Way<'a>,
+    attr: &RcStr,
+) -> Result<Option<Judged<'a>>, AllocError>
+    requires { IsOnPath way }
+    ensures { IfOk result (λ j. option_map judgement_seen j ≡ judged_on (setting_of S.schema S.table world.now) way.entry (rc_str_bytes attr.now) []) }
+{
+    match attribute_there(world, &way.ty, attr) {
+        None => Ok(None),
+        Some(BoolType::False) => Ok(Some(never(alloc))),
+        Some(BoolType::True) => Ok(Some(tests_of(way))),
+        Some(BoolType::AnyBool) => Ok(Some(tests_of(noted(way, attr)?))),
+    }
+}
+
+// The judgement of a conjunction of which a test is False.
+fn never<'a>(alloc: Global) -> Judged<'a>
+    ensures { judgement_seen result ≡ record { type = bool_type only_false; facts = no_facts } }
+{
+    Judged {
+        ty: Type::Bool(BoolType::False),
+        known: CapabilitySet::new(alloc),
+    }
+}
+
+// The judgement of the tests on the way gone.
+fn tests_of<'a>(way: Way<'a>) -> Judged<'a>
+    requires { AlongPath way.facts.items }
+    ensures { judgement_seen result ≡ tests_judged way.entry.facts.items }
+{
+    let Way {
+        at: _,
+        ty: _,
+        facts,
+    } = way;
+    let ty = Type::Bool(type_of_tests(facts.as_slice()));
+    Judged {
+        ty,
+        known: CapabilitySet::along(facts),
+    }
+}
+
+// True where no test gives a fact, and else the type of both truth values.
+fn type_of_tests(facts: &[Capability<'_>]) -> BoolType
+    ensures { bool_type_of result ≡ type_of_tests facts.now }
+{
+    match facts {
+        [] => BoolType::True,
+        _ => BoolType::AnyBool,
+    }
 }
 
 // The value of the attribute, as an expression.
@@ -127,42 +228,4 @@ fn fact<'a>(of: &Rc<Expr>, attr: &RcStr) -> Result<Capability<'a>, AllocError>
 {
     let expr: &Expr = of;
     Ok(Capability::new_attribute_owned(expr.clone()?, attr.clone()?))
-}
-
-// That fact alone.
-fn fact_alone<'a>(
-    alloc: Global,
-    of: &Rc<Expr>,
-    attr: &RcStr,
-) -> Result<CapabilitySet<'a>, AllocError>
-    ensures { IfOk result (λ c. facts_of c ≡ model_fact (tree_of of.now.value) (attribute_part (rc_str_bytes attr.now))) }
-{
-    CapabilitySet::singleton(alloc, fact(of, attr)?)
-}
-
-// The judgement of the test that the expression has the attribute.
-fn last_judgement<'a>(
-    alloc: Global,
-    of: &Rc<Expr>,
-    attr: &RcStr,
-    there: Option<BoolType>,
-) -> Result<Option<Judged<'a>>, AllocError>
-    ensures { IfOk result (λ j. option_map judgement_seen j ≡ option_map (model_tested (tree_of of.now.value) (attribute_part (rc_str_bytes attr.now))) (option_map bool_type_of there)) }
-{
-    tested(alloc, fact(of, attr)?, there)
-}
-
-// The judgement of a test of this type and these facts together with further ones.
-fn joined<'a>(
-    alloc: Global,
-    left: BoolType,
-    known: CapabilitySet<'a>,
-    rest: Option<Judged<'a>>,
-) -> Result<Option<Judged<'a>>, AllocError>
-    ensures { IfOk result (λ j. option_map judgement_seen j ≡ option_and_then (λ r. conjoined (bool_type_of left) (facts_of known.entry) r.type r.facts) (option_map judgement_seen rest.entry)) }
-{
-    match rest {
-        Some(Judged { ty, known: other }) => conjoined_bool(alloc, left, &known, &ty, &other),
-        None => Ok(None),
-    }
 }
