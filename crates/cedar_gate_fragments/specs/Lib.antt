@@ -1,4 +1,2 @@
 pub mod Types
 pub mod Written
-pub mod Maps
-pub mod Actions

@@ -2,6 +2,8 @@
 use Rattle.std.proofs.Common.{◌≡◌, ◌↔◌, ℕ, Bool, true, false, IsTrue, cond, List, [], ◌∷◌, map, length, Option, Some, None, option_map, Result, Ok, Err, find, refl, sym, ap, ◌∙◌}
 use Rattle.std.proofs.lemmas.Bool.{true≢false}
 use Rattle.std.specs.Borrow.{Bor}
+use Rattle.std.specs.List.{AllZip}
+use Rattle.std.specs.Rc.{rc_str_bytes}
 use Rattle.std.specs.declared.alloc.Global.{Global}
 use Rattle.std.specs.declared.rc.RcStr.{RcStr}
 use Rattle.std.specs.Option.{option_map_or, option_copied}
@@ -15,7 +17,7 @@ use Rattle.cedar_schema_model.specs.Reference.{to_entity, action_word}
 use Rattle.cedar_schema_decl.specs.Conditional.{Conditional, conditional_in, qualifying}
 use Rattle.cedar_schema_decl.specs.Forms.{TypeForm, bool_form, long_form, string_form, set_form, record_form, reference_form, extension_form, FieldForms, no_field_forms, field_form, EntityForm, standard_form, enumerated_form, external_form, ActionForm}
 use Rattle.cedar_schema_decl.specs.Requalified.{and_then, requalified, requalified_fields, requalified_entity, qualified_in, where_there, each}
-use Rattle.cedar_schema_fragments.specs.Qualified.{type_with, fields_with, entity_with, parent_with, action_with, full_name, common_named, common_qualified, entity_qualified, actions_qualified}
+use Rattle.cedar_schema_fragments.specs.Qualified.{type_with, fields_with, entity_with, full_name, action_typed, actions_qualified}
 use Rattle.cedar_schema_fragments.specs.Refusals.{Refusal, reserved_type}
 use Rattle.cedar_schema_decl.specs.declared.json_schema.ActionType.{ActionType}
 use Rattle.cedar_schema_fragments.specs.Resolved.{unreserved}
@@ -23,6 +25,13 @@ use Rattle.cedar_schema_fragments.specs.Written.{actions_written}
 
 pub same_ok : {A R : Type 0} (x y : A) (o : Result A R) → o ≡ Ok x → o ≡ Ok y → x ≡ y
 same_ok x y o h k = cc
+
+-- copies of texts
+pub texts_copied : (xs ys : List (RcStr Global)) → AllZip (λ s copy. rc_str_bytes copy ≡ rc_str_bytes s) xs ys → map rc_str_bytes ys ≡ map rc_str_bytes xs
+texts_copied [] [] h = refl
+texts_copied [] (y ∷ ys) h = absurd h
+texts_copied (x ∷ xs) [] h = absurd h
+texts_copied (x ∷ xs) (y ∷ ys) h = λ i. h.0 i ∷ texts_copied xs ys h.1 i
 
 -- each of a list
 pub each_all : {A B R : Type 0} (f : A → B) (xs : List A) → each {R = R} (λ x. Ok (f x)) xs ≡ Ok (map f xs)
@@ -65,21 +74,6 @@ module _ (space : Option Name) where
   pub entity_is : (e : EntityForm Name) (f : EntityForm Conditional) → requalified_entity (qualifying space) e ≡ Ok f → f ≡ entity_with (conditional_in space) e
   entity_is e f h = same_ok f (entity_with (conditional_in space) e) (requalified_entity (qualifying space) e) h (entity_all e)
 
-  pub parents_are : (ps : List (Name × Text)) (qs : List (Conditional × Text)) → each {R = Refusal} (λ p. Ok (parent_with (conditional_in space) p)) ps ≡ Ok qs → qs ≡ map (parent_with (conditional_in space)) ps
-  parents_are ps qs h = each_is (parent_with (conditional_in space)) ps qs h
-
-  pub commons_are : (cs : List (Text × TypeForm Name)) (ds : List (Name × TypeForm Conditional)) → each {R = Refusal} (λ c. Ok (common_qualified space c)) cs ≡ Ok ds → ds ≡ map (common_qualified space) cs
-  commons_are cs ds h = each_is (common_qualified space) cs ds h
-
-  pub named_are : (cs : List (Text × TypeForm Conditional)) (ds : List (Name × TypeForm Conditional)) → each {R = Refusal} (λ c. Ok (common_named space c)) cs ≡ Ok ds → ds ≡ map (common_named space) cs
-  named_are cs ds h = each_is (common_named space) cs ds h
-
-  pub entities_are : (es : List (Text × EntityForm Name)) (fs : List (Name × EntityForm Conditional)) → each {R = Refusal} (λ t. Ok (entity_qualified space t)) es ≡ Ok fs → fs ≡ map (entity_qualified space) es
-  entities_are es fs h = each_is (entity_qualified space) es fs h
-
-  pub typed_are : (k : Name) (as_ : List (Text × ActionForm Name (Name × Text))) (us : List (Uid × ActionForm Conditional (Conditional × Text))) → each {R = Refusal} (λ a. Ok (record { kind = k; id = a.0 }, action_with (conditional_in space) a.1)) as_ ≡ Ok us → us ≡ map (λ a. (record { kind = k; id = a.0 }, action_with (conditional_in space) a.1)) as_
-  typed_are k as_ us h = each_is (λ a. (record { kind = k; id = a.0 }, action_with (conditional_in space) a.1)) as_ us h
-
   -- the type of actions
   module _ {X : Type 0} where
     none_reserved : (n : Name) → is_reserved n ≡ false → (as_ : List (Text × X)) → find is_reserved (map (λ a. n) as_) ≡ None
@@ -111,18 +105,18 @@ module _ (space : Option Name) where
       go true e l = record { told = cc; reserved = e }
       go false e l = absurd (cc)
 
-  pub actions_made : (as_ : List (Text × ActionForm Name (Name × Text))) (k : Name) (us : List (Uid × ActionForm Conditional (Conditional × Text))) → unreserved (full_name space action_word) ≡ Ok k → us ≡ map (λ a. (record { kind = k; id = a.0 }, action_with (conditional_in space) a.1)) as_ → actions_qualified space as_ ≡ Ok us
+  pub actions_made : (as_ : List (Text × ActionForm Name (Name × Text))) (k : Name) (us : List (Uid × ActionForm Conditional (Conditional × Text))) → unreserved (full_name space action_word) ≡ Ok k → us ≡ map (action_typed space k) as_ → actions_qualified space as_ ≡ Ok us
   actions_made as_ k us h e =
       let is : IsPlain (full_name space action_word) k = plain_is (full_name space action_word) k h in
-      ap (λ o. option_map_or (λ n. Err (reserved_type n)) o (Ok (map (λ a. (record { kind = full_name space action_word; id = a.0 }, action_with (conditional_in space) a.1)) as_))) (none_reserved (full_name space action_word) is.plain as_)
-      ∙ ap (λ n. Ok (map (λ a. (record { kind = n; id = a.0 }, action_with (conditional_in space) a.1)) as_)) (sym is.same)
+      ap (λ o. option_map_or (λ n. Err (reserved_type n)) o (Ok (map (action_typed space (full_name space action_word)) as_))) (none_reserved (full_name space action_word) is.plain as_)
+      ∙ ap (λ n. Ok (map (action_typed space n) as_)) (sym is.same)
       ∙ ap Ok (sym e)
 
   pub actions_refused : (as_ : List (Text × ActionForm Name (Name × Text))) (r : Refusal) → (as_ ≡ [] → ⊥) → unreserved (full_name space action_word) ≡ Err r → actions_qualified space as_ ≡ Err r
   actions_refused [] r some h = absurd (some refl)
   actions_refused (a ∷ as_) r some h =
       let is : IsRefused (full_name space action_word) r = refused_is (full_name space action_word) r h in
-      ap (λ o. option_map_or (λ n. Err (reserved_type n)) o (Ok (map (λ c. (record { kind = full_name space action_word; id = c.0 }, action_with (conditional_in space) c.1)) (a ∷ as_)))) (first_reserved (full_name space action_word) is.reserved a as_)
+      ap (λ o. option_map_or (λ n. Err (reserved_type n)) o (Ok (map (action_typed space (full_name space action_word)) (a ∷ as_)))) (first_reserved (full_name space action_word) is.reserved a as_)
       ∙ ap Err is.told
 
 -- the namespace that is lent

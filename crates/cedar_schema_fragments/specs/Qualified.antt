@@ -66,6 +66,10 @@ entity_qualified space t = (full_name space t.0, entity_with (conditional_in spa
 abbrev pub action_qualified : Option Name → Text × ActionForm Name (Name × Text) → Uid × ActionForm Conditional (Conditional × Text)
 action_qualified space a = (full_uid space a.0, action_with (conditional_in space) a.1)
 
+-- an action under its uid, of this type
+abbrev pub action_typed : Option Name → Name → Text × ActionForm Name (Name × Text) → Uid × ActionForm Conditional (Conditional × Text)
+action_typed space kind a = (record { kind = kind; id = a.0 }, action_with (conditional_in space) a.1)
+
 -- a common type whose names may stand for one of several already, and a namespace that declares common types alone
 abbrev pub common_named : Option Name → Text × TypeForm Conditional → Name × TypeForm Conditional
 common_named space c = (full_name space c.0, c.1)

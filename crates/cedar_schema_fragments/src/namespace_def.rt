@@ -15,12 +15,12 @@ ghost use Rattle.cedar_schema_fragments.specs.Namespaces.{NamespaceForm, namespa
 ghost use Rattle.cedar_schema_fragments.specs.Qualified.{common_named, commons_alone, namespace_qualified};
 ghost use Rattle.cedar_schema_fragments.specs.Refusals.{Refuses};
 ghost use Rattle.cedar_schema_fragments.specs.Resolved.{of_types, commons_resolved, entities_resolved, namespace_resolved};
-ghost use Rattle.cedar_schema_fragments.specs.Written.{WrittenNamespace, commons_known, written_namespace, written_fragment};
+ghost use Rattle.cedar_schema_fragments.specs.Written.{commons_known, written_namespace, written_fragment};
 
 use crate::actions::{ActionFragment, ActionsDef};
 use crate::declared_names::{DeclaredNames, DeclaredNamespaces};
 use crate::err::FragmentError;
-use crate::naming::{actions_in, commons_in, entities_in, full_name, named_commons, pairs};
+use crate::naming::{actions_in, commons_in, copied_space, entities_in, full_name, named_commons};
 use crate::resolving::{Resolve, resolve_each};
 use cedar_expr_leaves::{ConditionalName, RawName};
 use cedar_expr_names::{EntityType, EntityUID, Id, InternalName, Loc};
@@ -54,10 +54,6 @@ pub struct ValidatorSchemaFragment<N, A>(
 // All that is declared, for namespaces.
 #[derive(Drop)]
 struct Namespaces<'a>(&'a AllDefs);
-
-// For namespaces as they are written.
-#[derive(Drop)]
-struct Definitions;
 
 impl<N, A> ValidatorNamespaceDef<N, A> {
     /// Goes over the names of all entity types that are declared, in order.
@@ -150,12 +146,25 @@ impl ValidatorNamespaceDef<ConditionalName, ConditionalName> {
         ensures made { IfOk result (λ r. namespace_qualified (written_namespace namespace definition) ≡ Ok (namespace_form conditional_of conditional_of r)) }
         ensures refused { IfErr result (Refuses (namespace_qualified (written_namespace namespace definition))) }
     {
+        ValidatorNamespaceDef::from_lent_definition(alloc, &namespace, &definition)
+    }
+
+    /// As `from_namespace_definition`, of a definition that is lent.
+    pub fn from_lent_definition(
+        alloc: Global,
+        namespace: &Option<InternalName>,
+        definition: &NamespaceDefinition<RawName>,
+    ) -> Result<ValidatorNamespaceDef<ConditionalName, ConditionalName>, FragmentError>
+        ensures made { IfOk result (λ r. namespace_qualified (written_namespace namespace.now definition.now) ≡ Ok (namespace_form conditional_of conditional_of r)) }
+        ensures refused { IfErr result (Refuses (namespace_qualified (written_namespace namespace.now definition.now))) }
+    {
+        let name = copied_space(namespace)?;
         let space = namespace.as_ref();
-        let common_types = commons_in(alloc, definition.common_types, space)?;
-        let entity_types = entities_in(alloc, definition.entity_types, space)?;
-        let actions = actions_in(alloc, definition.actions, space)?;
+        let common_types = commons_in(alloc, &definition.common_types, space)?;
+        let entity_types = entities_in(alloc, &definition.entity_types, space)?;
+        let actions = actions_in(alloc, &definition.actions, space)?;
         Ok(ValidatorNamespaceDef {
-            namespace,
+            namespace: name,
             common_types,
             entity_types,
             actions,
@@ -252,31 +261,6 @@ impl<'a> Resolve for Namespaces<'a> {
     }
 }
 
-impl Resolve for Definitions {
-    type From = (Option<InternalName>, NamespaceDefinition<RawName>);
-
-    type To = ValidatorNamespaceDef<ConditionalName, ConditionalName>;
-
-    ghost Before = { WrittenNamespace };
-
-    ghost After = { NamespaceForm Conditional (Conditional × Text) };
-
-    ghost before = { λ e. written_namespace e.0 e.1 };
-
-    ghost after = { namespace_form conditional_of conditional_of };
-
-    ghost resolves = { λ _. namespace_qualified };
-
-    fn resolve(
-        &self,
-        alloc: Global,
-        part: (Option<InternalName>, NamespaceDefinition<RawName>),
-    ) -> Result<ValidatorNamespaceDef<ConditionalName, ConditionalName>, FragmentError> {
-        let (namespace, definition) = part;
-        ValidatorNamespaceDef::from_namespace_definition(alloc, namespace, definition)
-    }
-}
-
 impl ValidatorSchemaFragment<ConditionalName, ConditionalName> {
     /// What is declared in each namespace of a fragment as it is written, under full names, with what each name may stand for.
     /// Refuses actions of a reserved type, and fails when out of memory.
@@ -287,7 +271,22 @@ impl ValidatorSchemaFragment<ConditionalName, ConditionalName> {
         ensures made { IfOk result (λ r. each namespace_qualified (written_fragment fragment) ≡ Ok (fragment_form conditional_of conditional_of r)) }
         ensures refused { IfErr result (Refuses (each namespace_qualified (written_fragment fragment))) }
     {
-        let namespaces = resolve_each(alloc, pairs(alloc, fragment.0)?, &Definitions)?;
+        ValidatorSchemaFragment::from_lent_fragment(alloc, &fragment)
+    }
+
+    /// As `from_schema_fragment`, of a fragment that is lent.
+    pub fn from_lent_fragment(
+        alloc: Global,
+        fragment: &Fragment<RawName>,
+    ) -> Result<ValidatorSchemaFragment<ConditionalName, ConditionalName>, FragmentError>
+        ensures made { IfOk result (λ r. each namespace_qualified (written_fragment fragment.now) ≡ Ok (fragment_form conditional_of conditional_of r)) }
+        ensures refused { IfErr result (Refuses (each namespace_qualified (written_fragment fragment.now))) }
+    {
+        let mut namespaces = Vec::with_capacity(alloc, fragment.0.len())?;
+        for (space, definition) in fragment.0.iter() {
+            let namespace = ValidatorNamespaceDef::from_lent_definition(alloc, space, definition)?;
+            namespaces.push(namespace)?;
+        }
         Ok(ValidatorSchemaFragment(namespaces))
     }
 

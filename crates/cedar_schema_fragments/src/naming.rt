@@ -1,64 +1,37 @@
 //! From declarations as they are written to full names, and to names that may stand for one of several.
 
-ghost use Rattle.std.specs.Prelude.{◌≡◌, [], map, IfOk, IfErr};
-ghost use Rattle.std.specs.Option.{option_map_or};
+ghost use Rattle.std.specs.Prelude.{◌≡◌, false, map, option_map, IfOk, IfErr};
 ghost use Rattle.std.specs.Rc.{rc_str_bytes};
 ghost use Rattle.std.specs.declared.result.Result.TheVariants.{Ok};
-ghost use Rattle.cedar_expr_model.specs.Name.{Name, Text};
-ghost use Rattle.cedar_expr_model.specs.Uid.{Uid};
 ghost use Rattle.cedar_expr_names.specs.Namespaces.{space_of};
 ghost use Rattle.cedar_expr_names.specs.Views.{id_text, name_of, name_loc, type_name_of};
 ghost use Rattle.cedar_expr_leaves.specs.Views.{raw_name_of};
 ghost use Rattle.cedar_schema_model.specs.Reference.{action_word, to_entity};
-ghost use Rattle.cedar_schema_decl.specs.Conditional.{Conditional, conditional_of, conditional_in};
-ghost use Rattle.cedar_schema_decl.specs.Definitions.{common_form, commons_form, entity_form, entities_form};
-ghost use Rattle.cedar_schema_decl.specs.Forms.{ActionForm, EntityForm, TypeForm, record_form, no_field_forms};
+ghost use Rattle.cedar_schema_decl.specs.Conditional.{conditional_of, conditional_in};
+ghost use Rattle.cedar_schema_decl.specs.Definitions.{common_form, commons_form, standard_written, entity_form, entities_form};
+ghost use Rattle.cedar_schema_decl.specs.Forms.{record_form, no_field_forms};
 ghost use Rattle.cedar_schema_decl.specs.Trees.{type_form};
 ghost use Rattle.cedar_schema_fragments.specs.Actions.{parent_form, principals_form, resources_form, context_form, is_elsewhere, action_form, actions_form, under_uid};
-ghost use Rattle.cedar_schema_fragments.specs.Qualified.{type_with, entity_with, parent_with, action_with, full_name, common_named, common_qualified, entity_qualified, actions_qualified};
+ghost use Rattle.cedar_schema_fragments.specs.Qualified.{type_with, entity_with, parent_with, action_with, full_name, common_named, common_qualified, entity_qualified, action_typed, actions_qualified};
 ghost use Rattle.cedar_schema_fragments.specs.Refusals.{Refuses};
 ghost use Rattle.cedar_schema_fragments.specs.Resolved.{unreserved};
 ghost use Rattle.cedar_schema_fragments.specs.Written.{kind_form, principals_written, resources_written, context_written, is_written_elsewhere, action_type_form, commons_known, commons_written, entities_written, actions_written};
 
 use crate::actions::{ActionFragment, ActionFragmentKind, ActionsDef, ValidatorApplySpec};
 use crate::err::FragmentError;
-use crate::resolving::{Resolve, resolve_each};
-use cedar_expr_leaves::{ConditionalName, RawName, ReferenceType};
+use cedar_expr_leaves::{ConditionalName, NonEmpty, RawName, ReferenceType};
 use cedar_expr_names::{Eid, EntityType, EntityUID, Id, InternalName, Loc, Name};
-use cedar_schema_decl::definitions::requalify_entity;
+use cedar_schema_decl::definitions::requalify_standard;
 use cedar_schema_decl::json_schema::{
     ActionEntityUID, ActionType, ActionTypeKind, ApplySpec, CommonType,
     EntityType as WrittenEntityType, EntityTypeKind, RecordType, Type, TypeVariant,
 };
 use cedar_schema_decl::qualify::Within;
-use cedar_schema_decl::requalify::requalify_names;
+use cedar_schema_decl::requalify::{requalify_names, requalify_type};
 use cedar_schema_decl::{CommonTypeDefs, EntityTypeFragment, EntityTypesDef};
 use std::alloc::{AllocError, Global};
 use std::collections::BTreeMap;
 use std::rc::RcStr;
-
-// A namespace, or the empty one: for common types that are written in it.
-#[derive(Drop)]
-struct Commons<'a>(Option<&'a InternalName>);
-
-// A namespace, or the empty one: for common types that are written in it, and whose names may stand for one of several already.
-#[derive(Drop)]
-struct NamedCommons<'a>(Option<&'a InternalName>);
-
-// A namespace, or the empty one: for entity types that are written in it.
-#[derive(Drop)]
-struct Entities<'a>(Option<&'a InternalName>);
-
-// A namespace, or the empty one: for parents of actions that are written in it.
-#[derive(Drop)]
-struct WrittenParents<'a>(Option<&'a InternalName>);
-
-// A namespace, or the empty one, and the type that its actions have: for actions that are written in it.
-#[derive(Drop)]
-struct WrittenActions<'a> {
-    namespace: Option<&'a InternalName>,
-    ty: &'a EntityType,
-}
 
 // The name of what is declared in a namespace, or in the empty one, under this word, at a place. Fails only when out of memory.
 pub(crate) fn full_name(
@@ -73,6 +46,16 @@ pub(crate) fn full_name(
     match namespace {
         None => InternalName::new(alloc, word, Vec::new(alloc), loc),
         Some(space) => InternalName::type_in_namespace(alloc, word, space.clone()?, loc),
+    }
+}
+
+// A copy of the name of a namespace, if it has one.
+pub(crate) fn copied_space(space: &Option<InternalName>) -> Result<Option<InternalName>, AllocError>
+    ensures { IfOk result (λ r. option_map name_of r ≡ option_map name_of space.now) }
+{
+    match space {
+        None => Ok(None),
+        Some(name) => Ok(Some(name.clone()?)),
     }
 }
 
@@ -93,10 +76,10 @@ fn action_type(alloc: Global, namespace: Option<&InternalName>) -> Result<Entity
 #[tactic(auto, using(crate::proofs::Qualifying::names_are))]
 fn names_in(
     alloc: Global,
-    names: Vec<RawName>,
+    names: &[RawName],
     namespace: Option<&InternalName>,
 ) -> Result<Vec<ConditionalName>, AllocError>
-    ensures { IfOk result (λ r. map conditional_of r.items ≡ map (conditional_in (space_of namespace.entry) to_entity) (map raw_name_of names.items)) }
+    ensures { IfOk result (λ r. map conditional_of r.items ≡ map (conditional_in (space_of namespace.entry) to_entity) (map raw_name_of names.now)) }
 {
     match requalify_names(alloc, names, ReferenceType::Entity, &Within(namespace)) {
         Ok(names) => Ok(names),
@@ -108,195 +91,127 @@ fn names_in(
 #[tactic(auto, using(crate::proofs::Qualifying::type_is))]
 fn type_in(
     alloc: Global,
-    ty: Type<RawName>,
+    ty: &Type<RawName>,
     namespace: Option<&InternalName>,
 ) -> Result<Type<ConditionalName>, AllocError>
-    ensures { IfOk result (λ r. type_form conditional_of r ≡ type_with (conditional_in (space_of namespace.entry)) (type_form raw_name_of ty)) }
+    ensures { IfOk result (λ r. type_form conditional_of r ≡ type_with (conditional_in (space_of namespace.entry)) (type_form raw_name_of ty.now)) }
 {
-    match ty.conditionally_qualify_type_references(alloc, namespace) {
+    match requalify_type(alloc, ty, &Within(namespace)) {
         Ok(ty) => Ok(ty),
-        Err(error) => Err(error),
+        Err(_) => Err(AllocError),
     }
 }
 
-// What is written of an entity type.
-fn entity_fragment(kind: EntityTypeKind<RawName>) -> EntityTypeFragment<RawName>
-    ensures { entity_form raw_name_of result ≡ kind_form raw_name_of kind }
+// A copy of ids, of which there is one at least.
+#[tactic(auto, using(crate::proofs::Qualifying::texts_copied))]
+fn copied_ids(ids: &NonEmpty<RcStr>) -> Result<NonEmpty<RcStr>, AllocError>
+    ensures head { IfOk result (λ r. rc_str_bytes r.head ≡ rc_str_bytes ids.now.head) }
+    ensures tail { IfOk result (λ r. map rc_str_bytes r.tail.items ≡ map rc_str_bytes ids.now.tail.items) }
+{
+    let head = ids.head.clone()?;
+    let tail = ids.tail.clone()?;
+    Ok(NonEmpty { head, tail })
+}
+
+// The standard entity type of these parents, attributes and tags, with what each name may stand for.
+fn standard_in(
+    alloc: Global,
+    parents: &[RawName],
+    attributes: &RecordType<RawName>,
+    tags: &Option<Type<RawName>>,
+    namespace: Option<&InternalName>,
+) -> Result<EntityTypeFragment<ConditionalName>, AllocError>
+    ensures { IfOk result (λ r. entity_form conditional_of r ≡ entity_with (conditional_in (space_of namespace.entry)) (standard_written raw_name_of parents.now attributes.now tags.now)) }
+{
+    match requalify_standard(alloc, parents, attributes, tags, &Within(namespace)) {
+        Ok(entity) => Ok(entity),
+        Err(_) => Err(AllocError),
+    }
+}
+
+// What is declared of an entity type, with what each name may stand for.
+fn kind_in(
+    alloc: Global,
+    kind: &EntityTypeKind<RawName>,
+    namespace: Option<&InternalName>,
+) -> Result<EntityTypeFragment<ConditionalName>, AllocError>
+    ensures { IfOk result (λ r. entity_form conditional_of r ≡ entity_with (conditional_in (space_of namespace.entry)) (kind_form raw_name_of kind.now)) }
 {
     match kind {
         EntityTypeKind::Standard {
             member_of_types,
             shape,
             tags,
-        } => EntityTypeFragment::Standard {
-            attributes: shape,
-            parents: member_of_types,
-            tags,
-        },
-        EntityTypeKind::Enum { choices } => EntityTypeFragment::Enum(choices),
-        EntityTypeKind::External { member_of_types } => EntityTypeFragment::External {
-            parents: member_of_types,
-        },
+        } => standard_in(alloc, member_of_types.as_slice(), shape, tags, namespace),
+        EntityTypeKind::Enum { choices } => Ok(EntityTypeFragment::Enum(copied_ids(choices)?)),
+        EntityTypeKind::External { member_of_types } => {
+            let parents = names_in(alloc, member_of_types.as_slice(), namespace)?;
+            Ok(EntityTypeFragment::External { parents })
+        }
     }
 }
 
-// The entity type with what each name may stand for.
-#[tactic(auto, using(crate::proofs::Qualifying::entity_is))]
+// The common type under its full name, with what each name may stand for.
+fn common_in(
+    alloc: Global,
+    word: &Id,
+    common: &CommonType<RawName>,
+    namespace: Option<&InternalName>,
+) -> Result<(InternalName, CommonType<ConditionalName>), AllocError>
+    ensures { IfOk result (λ r. (name_of r.0, common_form conditional_of r.1) ≡ common_qualified (space_of namespace.entry) (id_text word.now, common_form raw_name_of common.now)) }
+{
+    let name = full_name(alloc, namespace, word.clone()?, common.loc)?;
+    let ty = type_in(alloc, &common.ty, namespace)?;
+    let loc = common.loc;
+    Ok((name, CommonType { ty, loc }))
+}
+
+// The entity type under its full name, with what each name may stand for.
 fn entity_in(
     alloc: Global,
-    kind: EntityTypeKind<RawName>,
+    word: &Id,
+    entity: &WrittenEntityType<RawName>,
     namespace: Option<&InternalName>,
-) -> Result<EntityTypeFragment<ConditionalName>, AllocError>
-    ensures { IfOk result (λ r. entity_form conditional_of r ≡ entity_with (conditional_in (space_of namespace.entry)) (kind_form raw_name_of kind)) }
+) -> Result<(InternalName, EntityTypeFragment<ConditionalName>), AllocError>
+    ensures { IfOk result (λ r. (name_of r.0, entity_form conditional_of r.1) ≡ entity_qualified (space_of namespace.entry) (id_text word.now, kind_form raw_name_of entity.now.kind)) }
 {
-    match requalify_entity(alloc, entity_fragment(kind), &Within(namespace)) {
-        Ok(entity) => Ok(entity),
-        Err(_) => Err(AllocError),
-    }
+    let name = full_name(alloc, namespace, word.clone()?, entity.loc)?;
+    let entity = kind_in(alloc, &entity.kind, namespace)?;
+    Ok((name, entity))
 }
 
-impl<'a> Resolve for Commons<'a> {
-    type From = (Id, CommonType<RawName>);
-
-    type To = (InternalName, CommonType<ConditionalName>);
-
-    ghost Before = { Text × TypeForm Name };
-
-    ghost After = { Name × TypeForm Conditional };
-
-    ghost before = { λ e. (id_text e.0, common_form raw_name_of e.1) };
-
-    ghost after = { λ e. (name_of e.0, common_form conditional_of e.1) };
-
-    ghost resolves = { λ w c. Ok (common_qualified (space_of w.0) c) };
-
-    fn resolve(
-        &self,
-        alloc: Global,
-        part: (Id, CommonType<RawName>),
-    ) -> Result<(InternalName, CommonType<ConditionalName>), FragmentError> {
-        let (word, common) = part;
-        let name = full_name(alloc, self.0, word, common.loc)?;
-        let ty = type_in(alloc, common.ty, self.0)?;
-        let loc = common.loc;
-        Ok((name, CommonType { ty, loc }))
-    }
-}
-
-impl<'a> Resolve for NamedCommons<'a> {
-    type From = (Id, CommonType<ConditionalName>);
-
-    type To = (InternalName, CommonType<ConditionalName>);
-
-    ghost Before = { Text × TypeForm Conditional };
-
-    ghost After = { Name × TypeForm Conditional };
-
-    ghost before = { λ e. (id_text e.0, common_form conditional_of e.1) };
-
-    ghost after = { λ e. (name_of e.0, common_form conditional_of e.1) };
-
-    ghost resolves = { λ w c. Ok (common_named (space_of w.0) c) };
-
-    fn resolve(
-        &self,
-        alloc: Global,
-        part: (Id, CommonType<ConditionalName>),
-    ) -> Result<(InternalName, CommonType<ConditionalName>), FragmentError> {
-        let (word, common) = part;
-        let name = full_name(alloc, self.0, word, common.loc)?;
-        Ok((name, common))
-    }
-}
-
-impl<'a> Resolve for Entities<'a> {
-    type From = (Id, WrittenEntityType<RawName>);
-
-    type To = (InternalName, EntityTypeFragment<ConditionalName>);
-
-    ghost Before = { Text × EntityForm Name };
-
-    ghost After = { Name × EntityForm Conditional };
-
-    ghost before = { λ e. (id_text e.0, kind_form raw_name_of e.1.kind) };
-
-    ghost after = { λ e. (name_of e.0, entity_form conditional_of e.1) };
-
-    ghost resolves = { λ w t. Ok (entity_qualified (space_of w.0) t) };
-
-    fn resolve(
-        &self,
-        alloc: Global,
-        part: (Id, WrittenEntityType<RawName>),
-    ) -> Result<(InternalName, EntityTypeFragment<ConditionalName>), FragmentError> {
-        let (word, entity) = part;
-        let name = full_name(alloc, self.0, word, entity.loc)?;
-        let entity = entity_in(alloc, entity.kind, self.0)?;
-        Ok((name, entity))
-    }
-}
-
-impl<'a> Resolve for WrittenParents<'a> {
-    type From = ActionEntityUID<RawName>;
-
-    type To = ActionEntityUID<ConditionalName>;
-
-    ghost Before = { Name × Text };
-
-    ghost After = { Conditional × Text };
-
-    ghost before = { parent_form raw_name_of };
-
-    ghost after = { parent_form conditional_of };
-
-    ghost resolves = { λ w p. Ok (parent_with (conditional_in (space_of w.0)) p) };
-
-    fn resolve(
-        &self,
-        alloc: Global,
-        part: ActionEntityUID<RawName>,
-    ) -> Result<ActionEntityUID<ConditionalName>, FragmentError> {
-        let ty = part
-            .ty
-            .conditionally_qualify_with(alloc, self.0, ReferenceType::Entity)?;
-        Ok(ActionEntityUID { ty, id: part.id })
-    }
+// The parent of an action with what it may stand for.
+fn parent_in(
+    alloc: Global,
+    parent: &ActionEntityUID<RawName>,
+    namespace: Option<&InternalName>,
+) -> Result<ActionEntityUID<ConditionalName>, AllocError>
+    ensures { IfOk result (λ r. parent_form conditional_of r ≡ parent_with (conditional_in (space_of namespace.entry)) (parent_form raw_name_of parent.now)) }
+{
+    let ty = parent.ty.clone()?;
+    let ty = ty.conditionally_qualify_with(alloc, namespace, ReferenceType::Entity)?;
+    let id = parent.id.clone()?;
+    Ok(ActionEntityUID { ty, id })
 }
 
 // The parents with what each may stand for.
-#[tactic(auto, using(crate::proofs::Qualifying::parents_are))]
 fn parents_in(
     alloc: Global,
-    parents: Vec<ActionEntityUID<RawName>>,
+    parents: &[ActionEntityUID<RawName>],
     namespace: Option<&InternalName>,
 ) -> Result<Vec<ActionEntityUID<ConditionalName>>, AllocError>
-    ensures { IfOk result (λ r. map (parent_form conditional_of) r.items ≡ map (parent_with (conditional_in (space_of namespace.entry))) (map (parent_form raw_name_of) parents.items)) }
+    ensures { IfOk result (λ r. map (parent_form conditional_of) r.items ≡ map (parent_with (conditional_in (space_of namespace.entry))) (map (parent_form raw_name_of) parents.now)) }
 {
-    match resolve_each(alloc, parents, &WrittenParents(namespace)) {
-        Ok(parents) => Ok(parents),
-        Err(_) => Err(AllocError),
+    let mut made = Vec::with_capacity(alloc, parents.len())?;
+    for parent in parents {
+        made.push(parent_in(alloc, parent, namespace)?)?;
     }
-}
-
-// What an action applies to. Where nothing is written it applies to nothing, and its context is the empty record.
-fn applied(alloc: Global, applies_to: Option<ApplySpec<RawName>>) -> ApplySpec<RawName>
-    ensures principals { map raw_name_of result.principal_types.items ≡ option_map_or (λ s. map raw_name_of s.principal_types.items) applies_to [] }
-    ensures resources { map raw_name_of result.resource_types.items ≡ option_map_or (λ s. map raw_name_of s.resource_types.items) applies_to [] }
-    ensures context { type_form raw_name_of result.context ≡ option_map_or (λ s. type_form raw_name_of s.context) applies_to (record_form no_field_forms) }
-{
-    match applies_to {
-        Some(spec) => spec,
-        None => ApplySpec {
-            principal_types: Vec::new(alloc),
-            resource_types: Vec::new(alloc),
-            context: empty_record(alloc),
-        },
-    }
+    Ok(made)
 }
 
 // The type of the record without attributes.
-fn empty_record(alloc: Global) -> Type<RawName>
-    ensures { type_form raw_name_of result ≡ record_form no_field_forms }
+fn empty_record(alloc: Global) -> Type<ConditionalName>
+    ensures { type_form conditional_of result ≡ record_form no_field_forms }
 {
     let attributes = BTreeMap::new(alloc);
     Type {
@@ -305,28 +220,46 @@ fn empty_record(alloc: Global) -> Type<RawName>
     }
 }
 
-// What is declared of an action, with what each name may stand for.
-fn action_kind_in(
+// What an action applies to, and its context, with what each name may stand for.
+fn applied_in(
     alloc: Global,
-    kind: ActionTypeKind<RawName>,
+    spec: &ApplySpec<RawName>,
     namespace: Option<&InternalName>,
 ) -> Result<ActionFragmentKind<ConditionalName, ConditionalName>, AllocError>
-    ensures principals { IfOk result (λ r. principals_form conditional_of r ≡ map (conditional_in (space_of namespace.entry) to_entity) (principals_written raw_name_of kind)) }
-    ensures resources { IfOk result (λ r. resources_form conditional_of r ≡ map (conditional_in (space_of namespace.entry) to_entity) (resources_written raw_name_of kind)) }
-    ensures context { IfOk result (λ r. context_form conditional_of r ≡ type_with (conditional_in (space_of namespace.entry)) (context_written raw_name_of kind)) }
-    ensures elsewhere { IfOk result (λ r. is_elsewhere r ≡ is_written_elsewhere kind) }
+    ensures principals { IfOk result (λ r. principals_form conditional_of r ≡ map (conditional_in (space_of namespace.entry) to_entity) (map raw_name_of spec.now.principal_types.items)) }
+    ensures resources { IfOk result (λ r. resources_form conditional_of r ≡ map (conditional_in (space_of namespace.entry) to_entity) (map raw_name_of spec.now.resource_types.items)) }
+    ensures context { IfOk result (λ r. context_form conditional_of r ≡ type_with (conditional_in (space_of namespace.entry)) (type_form raw_name_of spec.now.context)) }
+    ensures elsewhere { IfOk result (λ r. is_elsewhere r ≡ false) }
+{
+    let principals = names_in(alloc, spec.principal_types.as_slice(), namespace)?;
+    let resources = names_in(alloc, spec.resource_types.as_slice(), namespace)?;
+    let context = type_in(alloc, &spec.context, namespace)?;
+    Ok(ActionFragmentKind::Declared {
+        applies_to: ValidatorApplySpec::new(principals, resources),
+        context,
+    })
+}
+
+// What is declared of an action, with what each name may stand for. Where it isn't written what the action applies to, it applies to
+// nothing, and its context is the empty record.
+fn action_kind_in(
+    alloc: Global,
+    kind: &ActionTypeKind<RawName>,
+    namespace: Option<&InternalName>,
+) -> Result<ActionFragmentKind<ConditionalName, ConditionalName>, AllocError>
+    ensures principals { IfOk result (λ r. principals_form conditional_of r ≡ map (conditional_in (space_of namespace.entry) to_entity) (principals_written raw_name_of kind.now)) }
+    ensures resources { IfOk result (λ r. resources_form conditional_of r ≡ map (conditional_in (space_of namespace.entry) to_entity) (resources_written raw_name_of kind.now)) }
+    ensures context { IfOk result (λ r. context_form conditional_of r ≡ type_with (conditional_in (space_of namespace.entry)) (context_written raw_name_of kind.now)) }
+    ensures elsewhere { IfOk result (λ r. is_elsewhere r ≡ is_written_elsewhere kind.now) }
 {
     match kind {
-        ActionTypeKind::Declared { applies_to } => {
-            let spec = applied(alloc, applies_to);
-            let principals = names_in(alloc, spec.principal_types, namespace)?;
-            let resources = names_in(alloc, spec.resource_types, namespace)?;
-            let context = type_in(alloc, spec.context, namespace)?;
-            Ok(ActionFragmentKind::Declared {
-                applies_to: ValidatorApplySpec::new(principals, resources),
-                context,
-            })
-        }
+        ActionTypeKind::Declared {
+            applies_to: Some(spec),
+        } => applied_in(alloc, spec, namespace),
+        ActionTypeKind::Declared { applies_to: None } => Ok(ActionFragmentKind::Declared {
+            applies_to: ValidatorApplySpec::new(Vec::new(alloc), Vec::new(alloc)),
+            context: empty_record(alloc),
+        }),
         ActionTypeKind::External => Ok(ActionFragmentKind::External),
     }
 }
@@ -334,72 +267,45 @@ fn action_kind_in(
 // The action with what each name may stand for.
 fn action_in(
     alloc: Global,
-    action: ActionType<RawName>,
+    action: &ActionType<RawName>,
     namespace: Option<&InternalName>,
 ) -> Result<ActionFragment<ConditionalName, ConditionalName>, AllocError>
-    ensures { IfOk result (λ r. action_form conditional_of conditional_of r ≡ action_with (conditional_in (space_of namespace.entry)) (action_type_form raw_name_of action)) }
+    ensures { IfOk result (λ r. action_form conditional_of conditional_of r ≡ action_with (conditional_in (space_of namespace.entry)) (action_type_form raw_name_of action.now)) }
 {
-    let parents = parents_in(alloc, action.member_of, namespace)?;
-    let kind = action_kind_in(alloc, action.kind, namespace)?;
+    let parents = parents_in(alloc, action.member_of.as_slice(), namespace)?;
+    let kind = action_kind_in(alloc, &action.kind, namespace)?;
     Ok(ActionFragment { parents, kind })
 }
 
-impl<'a> Resolve for WrittenActions<'a> {
-    type From = (RcStr, ActionType<RawName>);
-
-    type To = (EntityUID, ActionFragment<ConditionalName, ConditionalName>);
-
-    ghost Before = { Text × ActionForm Name (Name × Text) };
-
-    ghost After = { Uid × ActionForm Conditional (Conditional × Text) };
-
-    ghost before = { λ e. (rc_str_bytes e.0, action_type_form raw_name_of e.1) };
-
-    ghost after = { under_uid conditional_of conditional_of };
-
-    ghost resolves = { λ w a. Ok (record { kind = type_name_of w.ty.now; id = a.0 }, action_with (conditional_in (space_of w.namespace)) a.1) };
-
-    fn resolve(
-        &self,
-        alloc: Global,
-        part: (RcStr, ActionType<RawName>),
-    ) -> Result<(EntityUID, ActionFragment<ConditionalName, ConditionalName>), FragmentError> {
-        let (id, action) = part;
-        let loc = action.loc;
-        let ty = self.ty.clone()?;
-        let action = action_in(alloc, action, self.namespace)?;
-        Ok((EntityUID::from_components(ty, Eid::new(id), loc), action))
-    }
-}
-
-// The pairs of a map, in the order of their keys.
-pub(crate) fn pairs<K: Ord + Drop, V: Drop>(
+// The action of this type and id, with what each name may stand for.
+fn action_of_type(
     alloc: Global,
-    map: BTreeMap<K, V>,
-) -> Result<Vec<(K, V)>, AllocError>
-    ensures { IfOk result (λ r. r.items ≡ map.entries) }
+    id: &RcStr,
+    action: &ActionType<RawName>,
+    namespace: Option<&InternalName>,
+    ty: &EntityType,
+) -> Result<(EntityUID, ActionFragment<ConditionalName, ConditionalName>), AllocError>
+    ensures { IfOk result (λ r. under_uid conditional_of conditional_of r ≡ action_typed (space_of namespace.entry) (type_name_of ty.now) (rc_str_bytes id.now, action_type_form raw_name_of action.now)) }
 {
-    let mut pairs = Vec::with_capacity(alloc, map.len())?;
-    for pair in map {
-        pairs.push(pair)?;
-    }
-    Ok(pairs)
+    let uid = EntityUID::from_components(ty.clone()?, Eid::new(id.clone()?), action.loc);
+    let action = action_in(alloc, action, namespace)?;
+    Ok((uid, action))
 }
 
 // The common types that are written in a namespace, or in the empty one, under their full names, with what each name may stand
 // for. Fails only when out of memory.
-#[tactic(auto, using(crate::proofs::Qualifying::commons_are))]
 pub(crate) fn commons_in(
     alloc: Global,
-    commons: BTreeMap<Id, CommonType<RawName>>,
+    commons: &BTreeMap<Id, CommonType<RawName>>,
     namespace: Option<&InternalName>,
 ) -> Result<CommonTypeDefs<ConditionalName>, AllocError>
-    ensures { IfOk result (λ r. commons_form conditional_of r ≡ map (common_qualified (space_of namespace.entry)) (commons_written commons.entries)) }
+    ensures { IfOk result (λ r. commons_form conditional_of r ≡ map (common_qualified (space_of namespace.entry)) (commons_written commons.now.entries)) }
 {
-    match resolve_each(alloc, pairs(alloc, commons)?, &Commons(namespace)) {
-        Ok(defs) => Ok(CommonTypeDefs { defs }),
-        Err(_) => Err(AllocError),
+    let mut defs = Vec::with_capacity(alloc, commons.len())?;
+    for (word, common) in commons.iter() {
+        defs.push(common_in(alloc, word, common, namespace)?)?;
     }
+    Ok(CommonTypeDefs { defs })
 }
 
 // The common types under their full names.
@@ -410,57 +316,55 @@ pub(crate) fn named_commons(
 ) -> Result<CommonTypeDefs<ConditionalName>, AllocError>
     ensures { IfOk result (λ r. commons_form conditional_of r ≡ map (common_named (space_of namespace.entry)) (commons_known commons.entries)) }
 {
-    match resolve_each(alloc, pairs(alloc, commons)?, &NamedCommons(namespace)) {
-        Ok(defs) => Ok(CommonTypeDefs { defs }),
-        Err(_) => Err(AllocError),
+    let mut defs = Vec::with_capacity(alloc, commons.len())?;
+    for (word, common) in commons {
+        let name = full_name(alloc, namespace, word, common.loc)?;
+        defs.push((name, common))?;
     }
+    Ok(CommonTypeDefs { defs })
 }
 
 // The entity types that are written in a namespace, or in the empty one, under their full names, with what each name may stand
 // for. Fails only when out of memory.
-#[tactic(auto, using(crate::proofs::Qualifying::entities_are))]
 pub(crate) fn entities_in(
     alloc: Global,
-    entities: BTreeMap<Id, WrittenEntityType<RawName>>,
+    entities: &BTreeMap<Id, WrittenEntityType<RawName>>,
     namespace: Option<&InternalName>,
 ) -> Result<EntityTypesDef<ConditionalName>, AllocError>
-    ensures { IfOk result (λ r. entities_form conditional_of r ≡ map (entity_qualified (space_of namespace.entry)) (entities_written entities.entries)) }
+    ensures { IfOk result (λ r. entities_form conditional_of r ≡ map (entity_qualified (space_of namespace.entry)) (entities_written entities.now.entries)) }
 {
-    match resolve_each(alloc, pairs(alloc, entities)?, &Entities(namespace)) {
-        Ok(defs) => Ok(EntityTypesDef { defs }),
-        Err(_) => Err(AllocError),
+    let mut defs = Vec::with_capacity(alloc, entities.len())?;
+    for (word, entity) in entities.iter() {
+        defs.push(entity_in(alloc, word, entity, namespace)?)?;
     }
+    Ok(EntityTypesDef { defs })
 }
 
 // The actions of this type.
-#[tactic(auto, using(crate::proofs::Qualifying::typed_are))]
 fn actions_of_type(
     alloc: Global,
-    actions: BTreeMap<RcStr, ActionType<RawName>>,
+    actions: &BTreeMap<RcStr, ActionType<RawName>>,
     namespace: Option<&InternalName>,
     ty: &EntityType,
 ) -> Result<ActionsDef<ConditionalName, ConditionalName>, AllocError>
-    ensures { IfOk result (λ r. actions_form conditional_of conditional_of r ≡ map (λ a. (record { kind = type_name_of ty.now; id = a.0 }, action_with (conditional_in (space_of namespace.entry)) a.1)) (actions_written actions.entries)) }
+    ensures { IfOk result (λ r. actions_form conditional_of conditional_of r ≡ map (action_typed (space_of namespace.entry) (type_name_of ty.now)) (actions_written actions.now.entries)) }
 {
-    match resolve_each(
-        alloc,
-        pairs(alloc, actions)?,
-        &WrittenActions { namespace, ty },
-    ) {
-        Ok(actions) => Ok(ActionsDef { actions }),
-        Err(_) => Err(AllocError),
+    let mut made = Vec::with_capacity(alloc, actions.len())?;
+    for (id, action) in actions.iter() {
+        made.push(action_of_type(alloc, id, action, namespace, ty)?)?;
     }
+    Ok(ActionsDef { actions: made })
 }
 
 // The actions that are written in a namespace, or in the empty one, under their uids, with what each name may stand for. Refuses
 // actions of a reserved type, and fails when out of memory.
 pub(crate) fn actions_in(
     alloc: Global,
-    actions: BTreeMap<RcStr, ActionType<RawName>>,
+    actions: &BTreeMap<RcStr, ActionType<RawName>>,
     namespace: Option<&InternalName>,
 ) -> Result<ActionsDef<ConditionalName, ConditionalName>, FragmentError>
-    ensures made { IfOk result (λ r. actions_qualified (space_of namespace.entry) (actions_written actions.entries) ≡ Ok (actions_form conditional_of conditional_of r)) }
-    ensures refused { IfErr result (Refuses (actions_qualified (space_of namespace.entry) (actions_written actions.entries))) }
+    ensures made { IfOk result (λ r. actions_qualified (space_of namespace.entry) (actions_written actions.now.entries) ≡ Ok (actions_form conditional_of conditional_of r)) }
+    ensures refused { IfErr result (Refuses (actions_qualified (space_of namespace.entry) (actions_written actions.now.entries))) }
 {
     if actions.is_empty() {
         return Ok(ActionsDef::new(alloc));

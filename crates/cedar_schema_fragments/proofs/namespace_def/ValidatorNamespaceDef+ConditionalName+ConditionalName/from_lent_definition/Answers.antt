@@ -5,11 +5,11 @@ use Rattle.cedar_schema_fragments.specs.Qualified.{qualified_with, actions_quali
 use Rattle.cedar_schema_fragments.specs.Refusals.{Refuses}
 use Rattle.cedar_schema_fragments.specs.Written.{written_namespace, actions_written}
 use Rattle.cedar_schema_fragments.proofs.Qualifying.{space_is}
-use Rattle.cedar_schema_fragments.proofs.namespace_def.ValidatorNamespaceDef+ConditionalName+ConditionalName.from_namespace_definition.Goals as goal
+use Rattle.cedar_schema_fragments.proofs.namespace_def.ValidatorNamespaceDef+ConditionalName+ConditionalName.from_lent_definition.Goals as goal
 
 pub returns-in_err-actions-clause-refused : goal.returns-in_err-actions-clause-refused
 returns-in_err-actions-clause-refused c =
-    let w = written_namespace c.args.namespace c.args.definition in
-    let space = space_is c.as_ref-space.result c.args.namespace c.as_ref-space.ensures.value in
+    let w = written_namespace c.args.namespace.now c.args.definition.now in
+    let space = space_is c.as_ref-space.result c.args.namespace.now c.as_ref-space.ensures.value in
     handed (Refuses (namespace_qualified w)) c.in_err-actions.field-0.0 c.from_residual-in_err-actions.result c.from_residual-in_err-actions.ensures.1
-    (λ q u. ap (λ o. and_then (λ us. Ok (qualified_with w us)) (actions_qualified o (actions_written c.args.definition.actions.entries))) (sym space) ∙ ap (and_then (λ us. Ok (qualified_with w us))) (c.in_err-actions.ensures.refused q u))
+    (λ q u. ap (λ o. and_then (λ us. Ok (qualified_with w us)) (actions_qualified o (actions_written c.args.definition.now.actions.entries))) (sym space) ∙ ap (and_then (λ us. Ok (qualified_with w us))) (c.in_err-actions.ensures.refused q u))

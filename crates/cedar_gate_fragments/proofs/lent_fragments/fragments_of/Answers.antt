@@ -11,7 +11,7 @@ use Rattle.cedar_schema_fragments.specs.Refusals.{Refuses}
 use Rattle.cedar_schema_fragments.specs.Written.{written_fragment}
 use Rattle.cedar_schema_fragments.specs.WrittenDeclarations.{all_forms}
 use Rattle.cedar_gate_fragments.proofs.Several.{nothing_more, walk_goes, walk_wrong, walk_ends}
-use Rattle.cedar_gate_fragments.proofs.copied_fragments.fragments_of.Goals as goal
+use Rattle.cedar_gate_fragments.proofs.lent_fragments.fragments_of.Goals as goal
 
 pub loop-fragment-init : goal.loop-fragment-init
 loop-fragment-init c =

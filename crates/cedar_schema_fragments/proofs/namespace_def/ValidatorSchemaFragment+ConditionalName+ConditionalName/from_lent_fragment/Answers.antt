@@ -1,4 +1,4 @@
-use Rattle.std.proofs.Common.{◌≡◌, [], ◌∷◌, map, Ok, rules, sym, ap, ◌∙◌}
+use Rattle.std.proofs.Common.{◌≡◌, [], ◌∷◌, map, rules, ap, ◌∙◌}
 use Rattle.std.specs.Prelude.{List, Option}
 use Rattle.std.proofs.lemmas.List.{map-append}
 use Rattle.cedar_expr_names.specs.declared.internal_name.InternalName.{InternalName}
@@ -11,7 +11,7 @@ use Rattle.cedar_schema_fragments.specs.Namespaces.{namespace_form}
 use Rattle.cedar_schema_fragments.specs.Qualified.{namespace_qualified}
 use Rattle.cedar_schema_fragments.specs.Refusals.{Refuses}
 use Rattle.cedar_schema_fragments.specs.Written.{WrittenNamespace, written_namespace, written_fragment}
-use Rattle.cedar_gate_fragments.proofs.copied_fragments.fragment_of.Goals as goal
+use Rattle.cedar_schema_fragments.proofs.namespace_def.ValidatorSchemaFragment+ConditionalName+ConditionalName.from_lent_fragment.Goals as goal
 
 abbrev spaces : List (Option InternalName × NamespaceDefinition RawName) → List WrittenNamespace
 spaces es = map (λ e. written_namespace e.0 e.1) es
@@ -36,7 +36,6 @@ pub returns-clause-made : goal.returns-clause-made
 returns-clause-made c =
     let none : c.loop-space.space-iterator ≡ [] = search rules in
     gathers_all namespace_qualified (written_fragment c.args.fragment.now) (spaces c.loop-space.space-iterator) (map (namespace_form conditional_of conditional_of) c.loop-space.namespaces.items) c.loop-space.invariant (ap spaces none)
-    ∙ ap (λ v. Ok (map (namespace_form conditional_of conditional_of) v.items)) (sym c.from_namespaces.ensures)
 
 pub returns-in_err-namespace-clause-refused : goal.returns-in_err-namespace-clause-refused
 returns-in_err-namespace-clause-refused c =
