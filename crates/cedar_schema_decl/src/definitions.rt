@@ -5,7 +5,7 @@ ghost use Rattle.std.specs.declared.result.Result.TheVariants.{Ok};
 ghost use Rattle.cedar_expr_names.specs.Views.{name_of};
 ghost use Rattle.cedar_schema_decl.specs.Conditional.{conditional_of};
 ghost use Rattle.cedar_schema_decl.specs.Defined.{defined_of, resolving};
-ghost use Rattle.cedar_schema_decl.specs.Definitions.{common_form, commons_form, entity_form, entities_form};
+ghost use Rattle.cedar_schema_decl.specs.Definitions.{common_form, commons_form, standard_written, entity_form, entities_form};
 ghost use Rattle.cedar_schema_decl.specs.Refusals.{Refuses};
 ghost use Rattle.cedar_schema_decl.specs.Requalified.{requalified, requalified_entity, under_name, where_there, each};
 ghost use Rattle.cedar_schema_decl.specs.Trees.{type_form};
@@ -63,7 +63,7 @@ fn requalify_common<R: Requalify>(
     ensures made { IfOk result (λ r. requalified (R.renames names.now) (common_form R.before common) ≡ Ok (common_form R.after r)) }
     ensures refused { IfErr result (Refuses (requalified (R.renames names.now) (common_form R.before common))) }
 {
-    let ty = requalify_type(alloc, common.ty, names)?;
+    let ty = requalify_type(alloc, &common.ty, names)?;
     Ok(CommonType {
         ty,
         loc: common.loc,
@@ -90,11 +90,11 @@ pub fn requalify_commons<R: Requalify>(
 // The type, where there is one, with other names in the place of its own.
 fn requalify_optional<R: Requalify>(
     alloc: Global,
-    ty: Option<Type<R::From>>,
+    ty: &Option<Type<R::From>>,
     names: &R,
 ) -> Result<Option<Type<R::To>>, TypeNotDefinedError>
-    ensures made { IfOk result (λ r. where_there (requalified (R.renames names.now)) (option_map (type_form R.before) ty) ≡ Ok (option_map (type_form R.after) r)) }
-    ensures refused { IfErr result (Refuses (where_there (requalified (R.renames names.now)) (option_map (type_form R.before) ty))) }
+    ensures made { IfOk result (λ r. where_there (requalified (R.renames names.now)) (option_map (type_form R.before) ty.now) ≡ Ok (option_map (type_form R.after) r)) }
+    ensures refused { IfErr result (Refuses (where_there (requalified (R.renames names.now)) (option_map (type_form R.before) ty.now))) }
 {
     match ty {
         None => Ok(None),
@@ -105,9 +105,32 @@ fn requalify_optional<R: Requalify>(
     }
 }
 
-/// The entity type with other names in the place of those that it refers to. Refuses the first name in the place of which there
-/// is none, parents before attributes and these before tags, and fails when out of memory.
-pub fn requalify_entity<R: Requalify>(
+/// A standard entity type of these parents, attributes and tags, with other names in the place of those that it refers to. Refuses
+/// the first name in the place of which there is none, parents before attributes and these before tags, and fails when out of
+/// memory.
+pub fn requalify_standard<R: Requalify>(
+    alloc: Global,
+    parents: &[R::From],
+    attributes: &RecordType<R::From>,
+    tags: &Option<Type<R::From>>,
+    names: &R,
+) -> Result<EntityTypeFragment<R::To>, TypeNotDefinedError>
+    ensures made { IfOk result (λ r. requalified_entity (R.renames names.now) (standard_written R.before parents.now attributes.now tags.now) ≡ Ok (entity_form R.after r)) }
+    ensures refused { IfErr result (Refuses (requalified_entity (R.renames names.now) (standard_written R.before parents.now attributes.now tags.now))) }
+{
+    let parents = requalify_names(alloc, parents, ReferenceType::Entity, names)?;
+    let attributes = requalify_record(alloc, attributes, names)?;
+    let tags = requalify_optional(alloc, tags, names)?;
+    Ok(EntityTypeFragment::Standard {
+        attributes,
+        parents,
+        tags,
+    })
+}
+
+// The entity type with other names in the place of those that it refers to. Refuses the first name in the place of which there
+// is none, parents before attributes and these before tags, and fails when out of memory.
+fn requalify_entity<R: Requalify>(
     alloc: Global,
     entity: EntityTypeFragment<R::From>,
     names: &R,
@@ -120,20 +143,11 @@ pub fn requalify_entity<R: Requalify>(
             attributes,
             parents,
             tags,
-        } => {
-            let parents = requalify_names(alloc, parents, ReferenceType::Entity, names)?;
-            let attributes = requalify_record(alloc, attributes, names)?;
-            let tags = requalify_optional(alloc, tags, names)?;
-            Ok(EntityTypeFragment::Standard {
-                attributes,
-                parents,
-                tags,
-            })
-        }
+        } => requalify_standard(alloc, parents.as_slice(), &attributes, &tags, names),
         EntityTypeFragment::Enum(choices) => Ok(EntityTypeFragment::Enum(choices)),
         EntityTypeFragment::External { parents } => {
-            let parents = requalify_names(alloc, parents, ReferenceType::Entity, names)?;
-            Ok(EntityTypeFragment::External { parents })
+            let names = requalify_names(alloc, parents.as_slice(), ReferenceType::Entity, names)?;
+            Ok(EntityTypeFragment::External { parents: names })
         }
     }
 }

@@ -45,9 +45,10 @@ impl<'a> Requalify for Within<'a> {
     fn requalify(
         &self,
         alloc: Global,
-        name: RawName,
+        name: &RawName,
         kind: ReferenceType,
     ) -> Result<ConditionalName, TypeNotDefinedError> {
+        let name = name.clone()?;
         Ok(name.conditionally_qualify_with(alloc, self.0, kind)?)
     }
 }
@@ -70,10 +71,10 @@ impl Requalify for AllDefs {
     fn requalify(
         &self,
         _alloc: Global,
-        name: ConditionalName,
+        name: &ConditionalName,
         _kind: ReferenceType,
     ) -> Result<InternalName, TypeNotDefinedError> {
-        resolve(&name, self)
+        resolve(name, self)
     }
 }
 
@@ -87,7 +88,7 @@ impl Type<RawName> {
     ) -> Result<Type<ConditionalName>, AllocError>
         ensures { IfOk result (λ r. qualified_in (space_of namespace.entry) (type_form raw_name_of self) ≡ Ok (type_form conditional_of r)) }
     {
-        match requalify_type(alloc, self, &Within(namespace)) {
+        match requalify_type(alloc, &self, &Within(namespace)) {
             Ok(ty) => Ok(ty),
             Err(_) => Err(AllocError),
         }
@@ -105,6 +106,6 @@ impl Type<ConditionalName> {
         ensures resolved { IfOk result (λ r. requalified (resolving (defined_of all_defs.now)) (type_form conditional_of self) ≡ Ok (type_form name_of r)) }
         ensures refused { IfErr result (Refuses (requalified (resolving (defined_of all_defs.now)) (type_form conditional_of self))) }
     {
-        requalify_type(alloc, self, all_defs)
+        requalify_type(alloc, &self, all_defs)
     }
 }

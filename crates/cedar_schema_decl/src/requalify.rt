@@ -42,11 +42,11 @@ pub trait Requalify {
     fn requalify(
         &self,
         alloc: Global,
-        name: Self::From,
+        name: &Self::From,
         kind: ReferenceType,
     ) -> Result<Self::To, TypeNotDefinedError>
-        ensures made { IfOk result (λ n. renames self.now (kind_of kind) (before name) ≡ Ok (after n)) }
-        ensures refused { IfErr result (Refuses (renames self.now (kind_of kind) (before name))) };
+        ensures made { IfOk result (λ n. renames self.now (kind_of kind) (before name.now) ≡ Ok (after n)) }
+        ensures refused { IfErr result (Refuses (renames self.now (kind_of kind) (before name.now))) };
 }
 
 /// The type with other names in the place of its own. Refuses the first name in the place of which there is none, and fails when
@@ -54,13 +54,13 @@ pub trait Requalify {
 #[cycle(requalify)]
 pub fn requalify_type<R: Requalify>(
     alloc: Global,
-    ty: Type<R::From>,
+    ty: &Type<R::From>,
     names: &R,
 ) -> Result<Type<R::To>, TypeNotDefinedError>
-    ensures made { IfOk result (λ r. requalified (R.renames names.now) (type_form R.before ty) ≡ Ok (type_form R.after r)) }
-    ensures refused { IfErr result (Refuses (requalified (R.renames names.now) (type_form R.before ty))) }
+    ensures made { IfOk result (λ r. requalified (R.renames names.now) (type_form R.before ty.now) ≡ Ok (type_form R.after r)) }
+    ensures refused { IfErr result (Refuses (requalified (R.renames names.now) (type_form R.before ty.now))) }
 {
-    let variant = requalify_variant(alloc, ty.ty, names)?;
+    let variant = requalify_variant(alloc, &ty.ty, names)?;
     Ok(Type {
         ty: variant,
         loc: ty.loc,
@@ -70,12 +70,12 @@ pub fn requalify_type<R: Requalify>(
 // A type by a name of this kind, with another name in the place of its own. Refuses a name in the place of which there is none.
 fn requalify_name<R: Requalify>(
     alloc: Global,
-    name: R::From,
+    name: &R::From,
     kind: ReferenceType,
     names: &R,
 ) -> Result<TypeVariant<R::To>, TypeNotDefinedError>
-    ensures made { IfOk result (λ r. requalified (R.renames names.now) (reference_form (kind_of kind) (R.before name)) ≡ Ok (variant_form R.after r)) }
-    ensures refused { IfErr result (Refuses (requalified (R.renames names.now) (reference_form (kind_of kind) (R.before name)))) }
+    ensures made { IfOk result (λ r. requalified (R.renames names.now) (reference_form (kind_of kind) (R.before name.now)) ≡ Ok (variant_form R.after r)) }
+    ensures refused { IfErr result (Refuses (requalified (R.renames names.now) (reference_form (kind_of kind) (R.before name.now)))) }
 {
     let name = names.requalify(alloc, name, kind)?;
     Ok(match kind {
@@ -100,18 +100,18 @@ fn set_of<R: Requalify>(
 #[cycle(requalify)]
 fn requalify_variant<R: Requalify>(
     alloc: Global,
-    ty: TypeVariant<R::From>,
+    ty: &TypeVariant<R::From>,
     names: &R,
 ) -> Result<TypeVariant<R::To>, TypeNotDefinedError>
-    ensures made { IfOk result (λ r. requalified (R.renames names.now) (variant_form R.before ty) ≡ Ok (variant_form R.after r)) }
-    ensures refused { IfErr result (Refuses (requalified (R.renames names.now) (variant_form R.before ty))) }
+    ensures made { IfOk result (λ r. requalified (R.renames names.now) (variant_form R.before ty.now) ≡ Ok (variant_form R.after r)) }
+    ensures refused { IfErr result (Refuses (requalified (R.renames names.now) (variant_form R.before ty.now))) }
 {
     match ty {
         TypeVariant::String => Ok(TypeVariant::String),
         TypeVariant::Long => Ok(TypeVariant::Long),
         TypeVariant::Boolean => Ok(TypeVariant::Boolean),
         TypeVariant::Set { element } => {
-            let element = requalify_type(alloc, Box::into_inner(element), names)?;
+            let element = requalify_type(alloc, element, names)?;
             Ok(set_of::<R>(alloc, element)?)
         }
         TypeVariant::Record(fields) => {
@@ -125,7 +125,10 @@ fn requalify_variant<R: Requalify>(
         TypeVariant::CommonTypeRef { type_name } => {
             requalify_name(alloc, type_name, ReferenceType::Common, names)
         }
-        TypeVariant::Extension { name } => Ok(TypeVariant::Extension { name }),
+        TypeVariant::Extension { name } => {
+            let name = name.clone()?;
+            Ok(TypeVariant::Extension { name })
+        }
     }
 }
 
@@ -134,11 +137,11 @@ fn requalify_variant<R: Requalify>(
 #[cycle(requalify)]
 pub fn requalify_record<R: Requalify>(
     alloc: Global,
-    fields: RecordType<R::From>,
+    fields: &RecordType<R::From>,
     names: &R,
 ) -> Result<RecordType<R::To>, TypeNotDefinedError>
-    ensures made { IfOk result (λ r. requalified_fields (R.renames names.now) (record_fields R.before fields) ≡ Ok (record_fields R.after r)) }
-    ensures refused { IfErr result (Refuses (requalified_fields (R.renames names.now) (record_fields R.before fields))) }
+    ensures made { IfOk result (λ r. requalified_fields (R.renames names.now) (record_fields R.before fields.now) ≡ Ok (record_fields R.after r)) }
+    ensures refused { IfErr result (Refuses (requalified_fields (R.renames names.now) (record_fields R.before fields.now))) }
 {
     let attributes = requalify_attributes(alloc, fields, names)?;
     let attributes = field_map(alloc, attributes)?;
@@ -150,16 +153,17 @@ pub fn requalify_record<R: Requalify>(
 #[cycle(requalify)]
 fn requalify_attributes<R: Requalify>(
     alloc: Global,
-    fields: RecordType<R::From>,
+    fields: &RecordType<R::From>,
     names: &R,
 ) -> Result<Vec<(RcStr, TypeOfAttribute<R::To>)>, TypeNotDefinedError>
-    ensures made { IfOk result (λ r. each (under_name (requalified_attribute (R.renames names.now))) (record_rows R.before fields) ≡ Ok (attribute_rows R.after r.items)) }
+    ensures made { IfOk result (λ r. each (under_name (requalified_attribute (R.renames names.now))) (record_rows R.before fields.now) ≡ Ok (attribute_rows R.after r.items)) }
     ensures rising { IfOk result (λ r. names_rise (map by_text r.items) ≡ true) }
-    ensures refused { IfErr result (Refuses (each (under_name (requalified_attribute (R.renames names.now))) (record_rows R.before fields))) }
+    ensures refused { IfErr result (Refuses (each (under_name (requalified_attribute (R.renames names.now))) (record_rows R.before fields.now))) }
 {
     let mut made = Vec::with_capacity(alloc, fields.attributes.len())?;
-    for (name, attribute) in fields.attributes {
-        made.push((name, requalify_attribute(alloc, attribute, names)?))?;
+    for (name, attribute) in fields.attributes.iter() {
+        let attribute = requalify_attribute(alloc, attribute, names)?;
+        made.push((name.clone()?, attribute))?;
     }
     Ok(made)
 }
@@ -168,13 +172,13 @@ fn requalify_attributes<R: Requalify>(
 #[cycle(requalify)]
 fn requalify_attribute<R: Requalify>(
     alloc: Global,
-    attribute: TypeOfAttribute<R::From>,
+    attribute: &TypeOfAttribute<R::From>,
     names: &R,
 ) -> Result<TypeOfAttribute<R::To>, TypeNotDefinedError>
-    ensures made { IfOk result (λ r. requalified_attribute (R.renames names.now) (attribute_form R.before attribute) ≡ Ok (attribute_form R.after r)) }
-    ensures refused { IfErr result (Refuses (requalified_attribute (R.renames names.now) (attribute_form R.before attribute))) }
+    ensures made { IfOk result (λ r. requalified_attribute (R.renames names.now) (attribute_form R.before attribute.now) ≡ Ok (attribute_form R.after r)) }
+    ensures refused { IfErr result (Refuses (requalified_attribute (R.renames names.now) (attribute_form R.before attribute.now))) }
 {
-    let ty = requalify_type(alloc, attribute.ty, names)?;
+    let ty = requalify_type(alloc, &attribute.ty, names)?;
     Ok(TypeOfAttribute {
         ty,
         required: attribute.required,
@@ -185,12 +189,12 @@ fn requalify_attribute<R: Requalify>(
 /// Other names in the place of these. Refuses the first name in the place of which there is none, and fails when out of memory.
 pub fn requalify_names<R: Requalify>(
     alloc: Global,
-    written: Vec<R::From>,
+    written: &[R::From],
     kind: ReferenceType,
     names: &R,
 ) -> Result<Vec<R::To>, TypeNotDefinedError>
-    ensures made { IfOk result (λ r. each (R.renames names.now (kind_of kind)) (map R.before written.items) ≡ Ok (map R.after r.items)) }
-    ensures refused { IfErr result (Refuses (each (R.renames names.now (kind_of kind)) (map R.before written.items))) }
+    ensures made { IfOk result (λ r. each (R.renames names.now (kind_of kind)) (map R.before written.now) ≡ Ok (map R.after r.items)) }
+    ensures refused { IfErr result (Refuses (each (R.renames names.now (kind_of kind)) (map R.before written.now))) }
 {
     let mut made = Vec::with_capacity(alloc, written.len())?;
     for name in written {

@@ -200,8 +200,8 @@ fn conjoined<'a>(
     }
 }
 
-/// The judgement of a conjunction whose left side is of this type of truth values.
-pub fn conjoined_bool<'a>(
+// The judgement of a conjunction whose left side is of this type of truth values.
+fn conjoined_bool<'a>(
     alloc: Global,
     left: BoolType,
     own: &CapabilitySet<'a>,

@@ -5,6 +5,4 @@ use Rattle.cedar_schema_decl.proofs.requalify.+requalify.Given as goal
 
 abbrev pub invariant-requalify_attributes-loop-name : goal.invariant-requalify_attributes-loop-name
 invariant-requalify_attributes-loop-name g l =
-    (goal.iterator-requalify_attributes-loop-name g).can_next l.name-iterator ×
-    (goal.iterator-requalify_attributes-loop-name g).is_finite l.name-iterator ×
-    Gathers (under_name (requalified_attribute (g.R.Requalify.renames l.names))) (record_rows g.R.Requalify.before l.fn.fields) (attribute_rows g.R.Requalify.after l.made.items) (attribute_rows g.R.Requalify.before l.name-iterator)
+    Gathers (under_name (requalified_attribute (g.R.Requalify.renames l.names))) (record_rows g.R.Requalify.before l.fields) (attribute_rows g.R.Requalify.after l.made.items) (attribute_rows g.R.Requalify.before l.name-iterator)
