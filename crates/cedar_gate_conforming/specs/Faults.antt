@@ -1,6 +1,6 @@
 -- The faults of the code in the model, and what a refusal says.
 -- Rule: conforming entities; conforming requests (docs/RULES.md).
-use Rattle.std.specs.Prelude.{◌≡◌, ℕ, Bool, true, Option, Some, None, IfSome}
+use Rattle.std.specs.Prelude.{◌≡◌, ℕ, Bool, true, Option, Some, None, IfSome, is_some}
 use Rattle.cedar_schema_model.specs.Conforming.{ConformFault, undeclared, not_listed, no_member, lacks_attribute, undeclared_attribute, attribute_value, tag, ancestor, context_value, open_part}
 use Rattle.cedar_gate_model.specs.First.{first_fault}
 use Rattle.cedar_gate_conforming.specs.declared.faults.ConformFault as code
@@ -32,6 +32,10 @@ fault_seen Tag = Some tag
 fault_seen Ancestor = Some ancestor
 fault_seen Context = Some context_value
 fault_seen OpenPart = Some open_part
+
+-- it is a fault, and not out of memory
+abbrev pub IsTold : code.ConformFault → Type 0
+IsTold f = is_some (fault_seen f) ≡ true
 
 -- It is the first fault that is there. Out of memory says nothing.
 abbrev pub IsFirst : (ConformFault → Bool) → code.ConformFault → Type 0

@@ -9,7 +9,7 @@ ghost use Rattle.cedar_schema_entries.specs.Views.{entity_type_seen};
 ghost use Rattle.cedar_schema_model.specs.Conforming.{of_kind, among_actions, has_entity_fault, EntityConforms};
 ghost use Rattle.cedar_schema_model.specs.Schema.{Schema};
 ghost use Rattle.cedar_store_entities.specs.Views.{entity_uid, entity_of};
-ghost use Rattle.cedar_gate_conforming.specs.Faults.{IsFirst, IsThere};
+ghost use Rattle.cedar_gate_conforming.specs.Faults.{IsFirst, IsThere, IsTold};
 
 use crate::ancestors::{action_ancestors_are_wrong, ancestors_are_wrong};
 use crate::attributes::{has_undeclared, has_wrong_value, holds_values, lacks_required};
@@ -21,13 +21,14 @@ use cedar_schema_built::ValidatorSchema;
 use cedar_schema_entries::ValidatorEntityType;
 use cedar_store_entities::Entity;
 
-/// Checks whether the entity conforms to the schema: to each by which the same conforms as by what is kept.
+/// Checks whether the entity conforms to the schema: to each by which the same conforms as by what is kept. Takes no memory.
 ///
 /// # Errors
-/// The first of its faults.
+/// The first of its faults, and never out of memory.
 pub fn check_entity(schema: &ValidatorSchema, entity: &Entity) -> Result<(), ConformFault>
     ensures conforms { (s : Schema) → ConformsAlike s (schema_kept schema.now) → OnOk result (EntityConforms s (entity_uid entity.now) (entity_of entity.now)) }
     ensures refused { (s : Schema) → ConformsAlike s (schema_kept schema.now) → IfErr result (IsThere (has_entity_fault s (entity_uid entity.now) (entity_of entity.now))) }
+    ensures told { IfErr result IsTold }
 {
     first_faults_are_faults();
     check_kept(schema, entity)
@@ -37,6 +38,7 @@ pub fn check_entity(schema: &ValidatorSchema, entity: &Entity) -> Result<(), Con
 fn check_kept(schema: &ValidatorSchema, entity: &Entity) -> Result<(), ConformFault>
     ensures none { OnOk result (first_fault (kept_entity_fault (schema_kept schema.now) (entity_uid entity.now) (entity_of entity.now)) ≡ None) }
     ensures first { IfErr result (IsFirst (kept_entity_fault (schema_kept schema.now) (entity_uid entity.now) (entity_of entity.now))) }
+    ensures told { IfErr result IsTold }
 {
     match schema.get_action_id(entity.uid()) {
         Some(_) => check_action(schema, entity),
@@ -48,6 +50,7 @@ fn check_kept(schema: &ValidatorSchema, entity: &Entity) -> Result<(), ConformFa
 fn check_action(schema: &ValidatorSchema, entity: &Entity) -> Result<(), ConformFault>
     ensures none { OnOk result (first_fault (kept_fault_at (schema_kept schema.now) (entity_uid entity.now) (entity_of entity.now) among_actions) ≡ None) }
     ensures first { IfErr result (IsFirst (kept_fault_at (schema_kept schema.now) (entity_uid entity.now) (entity_of entity.now) among_actions)) }
+    ensures told { IfErr result IsTold }
 {
     if has_attributes(entity) {
         return Err(ConformFault::UndeclaredAttribute);
@@ -86,6 +89,7 @@ ghost use Rattle.cedar_schema_model.specs.Conforming.{nowhere};
 fn check_typed(schema: &ValidatorSchema, entity: &Entity) -> Result<(), ConformFault>
     ensures none { OnOk result (first_fault (kept_fault_at (schema_kept schema.now) (entity_uid entity.now) (entity_of entity.now) (option_map_or (λ t. of_kind t.kind) (kept_type (schema_kept schema.now) (entity_uid entity.now).kind) nowhere)) ≡ None) }
     ensures first { IfErr result (IsFirst (kept_fault_at (schema_kept schema.now) (entity_uid entity.now) (entity_of entity.now) (option_map_or (λ t. of_kind t.kind) (kept_type (schema_kept schema.now) (entity_uid entity.now).kind) nowhere))) }
+    ensures told { IfErr result IsTold }
 {
     match schema.get_entity_type(entity.uid().entity_type()) {
         Some(ty) => check_of_type(schema, ty, entity),
@@ -101,6 +105,7 @@ fn check_of_type(
 ) -> Result<(), ConformFault>
     ensures none { OnOk result (first_fault (kept_fault_at (schema_kept schema.now) (entity_uid entity.now) (entity_of entity.now) (of_kind (entity_type_seen ty.now).kind)) ≡ None) }
     ensures first { IfErr result (IsFirst (kept_fault_at (schema_kept schema.now) (entity_uid entity.now) (entity_of entity.now) (of_kind (entity_type_seen ty.now).kind))) }
+    ensures told { IfErr result IsTold }
 {
     if is_no_member(ty, entity.uid()) {
         return Err(ConformFault::NoMember);
