@@ -7,7 +7,7 @@ use Rattle.cedar_expr_model.specs.Value.{V}
 use Rattle.cedar_store_entities.specs.declared.entities.Entities.{Entities}
 use Rattle.cedar_store_model.specs.Policy.{binding_of, no_bindings}
 use Rattle.cedar_evaluator_model.specs.Response.{PartialRequest}
-use Rattle.cedar_evaluator_operators.specs.Calls.{Functions}
+use Rattle.cedar_evaluator_errors.specs.Calls.{Functions}
 use Rattle.cedar_evaluator_reads.specs.Scopes.{store_of}
 use Rattle.cedar_evaluator_core.specs.Evaluators.{asked_of, bound_in, entities_in, table_in, scope_in}
 use Rattle.cedar_evaluator_core.specs.declared.evaluator.Evaluator.{Evaluator}

@@ -8,7 +8,7 @@ use Rattle.cedar_store_entities.specs.declared.entities.Entities.{Entities}
 use Rattle.cedar_store_model.specs.Policy.{no_bindings, binding_of}
 use Rattle.cedar_evaluator_model.specs.Scope.{Scope}
 use Rattle.cedar_evaluator_model.specs.Response.{PartialRequest}
-use Rattle.cedar_evaluator_operators.specs.Calls.{Functions}
+use Rattle.cedar_evaluator_errors.specs.Calls.{Functions}
 use Rattle.cedar_evaluator_reads.specs.Scopes.{store_of}
 
 -- The scope of a request over entities and a table whose functions answer so, without slots and values of unknowns.

@@ -10,7 +10,7 @@ ghost use Rattle.cedar_evaluator_model.specs.Laws.{as_concrete, IsReady};
 ghost use Rattle.cedar_evaluator_model.specs.Members.{concretize, decision};
 ghost use Rattle.cedar_evaluator_model.specs.Reauthorize.{request_bound};
 ghost use Rattle.cedar_evaluator_model.specs.Response.{PartialRequest, response_of};
-ghost use Rattle.cedar_evaluator_operators.specs.Calls.{Functions};
+ghost use Rattle.cedar_evaluator_errors.specs.Calls.{Functions};
 ghost use Rattle.cedar_evaluator_reads.specs.Scopes.{values_in};
 ghost use Rattle.cedar_evaluator_core.specs.Evaluators.{asked_of, table_in, limit_of, scope_in};
 ghost use Rattle.cedar_evaluator_requests.specs.Views.{request_of, answer_of};

@@ -94,7 +94,7 @@ impl PartialResponse {
     ghost use Rattle.cedar_evaluator_requests.specs.Views.{decision_of, error_of, request_of, answer_of};
     ghost use Rattle.cedar_evaluator_requests.specs.Groups.{noted_seen, false_seen, residual_seen, each_once};
     ghost use Rattle.cedar_evaluator_model.specs.Reauthorize.{reauthorized};
-    ghost use Rattle.cedar_evaluator_operators.specs.Calls.{Functions};
+    ghost use Rattle.cedar_evaluator_errors.specs.Calls.{Functions};
     ghost use Rattle.cedar_evaluator_reads.specs.Scopes.{values_in};
     ghost use Rattle.cedar_evaluator.specs.Again.{IsAgain};
     ghost use Rattle.cedar_evaluator.specs.Authorizers.{asks_table, keeps_limit};

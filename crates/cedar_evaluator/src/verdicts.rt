@@ -9,7 +9,7 @@ ghost use Rattle.cedar_store_policies.specs.Policies.{policy_of};
 ghost use Rattle.cedar_evaluator_model.specs.Scope.{Left as ModelLeft};
 ghost use Rattle.cedar_evaluator_model.specs.Steps.{truth_left};
 ghost use Rattle.cedar_evaluator_model.specs.Response.{verdict as verdict_of, slots_bound};
-ghost use Rattle.cedar_evaluator_operators.specs.Calls.{Functions};
+ghost use Rattle.cedar_evaluator_errors.specs.Calls.{Functions};
 ghost use Rattle.cedar_evaluator_core.specs.Evaluators.{table_in, limit_of, scope_in, IsVerdict};
 ghost use Rattle.cedar_evaluator.specs.Verdicts.{with_residual, IsLeft};
 

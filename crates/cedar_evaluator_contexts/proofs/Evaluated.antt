@@ -15,7 +15,7 @@ use Rattle.cedar_evaluator_model.specs.Evaluation.{evaluated}
 use Rattle.cedar_evaluator_model.specs.Reauthorize.{restricted_left}
 use Rattle.cedar_evaluator_errors.specs.Outcomes.{Leaves}
 use Rattle.cedar_evaluator_errors.specs.declared.err.EvaluationError.{EvaluationError}
-use Rattle.cedar_evaluator_operators.specs.Calls.{Functions}
+use Rattle.cedar_evaluator_errors.specs.Calls.{Functions}
 use Rattle.cedar_evaluator_core.specs.Evaluators.{bound_in, table_in, limit_of, scope_in}
 use Rattle.cedar_evaluator_core.specs.declared.evaluator.Evaluator.{Evaluator}
 use Rattle.cedar_evaluator_contexts.specs.Functions.{HasFunctionsOf}

@@ -27,35 +27,15 @@ use Rattle.cedar_gate_model.specs.Bundle.{Functions}
 use Rattle.cedar_gate_model.specs.ReadingValue.{with_functions}
 use Rattle.cedar_gate_model.proofs.Reading.Values.{Clean, evaluated_clean, none_is}
 use Rattle.cedar_gate_model.proofs.Runs.Contexts.{substituted_restricted}
-use Rattle.cedar_evaluator_contexts.specs.Contexts.{IsLeftOfRecord, Becomes, Evaluates, StoppedBy, CreatesOfExpr, CreatesOfPairs, Substitutes}
+use Rattle.cedar_evaluator_restricted_exprs.proofs.OfRecord.{both, of_record}
+use Rattle.cedar_evaluator_restricted_exprs.specs.Contexts.{IsOfRecord}
+use Rattle.cedar_evaluator_contexts.specs.Contexts.{Becomes, Evaluates, StoppedBy, CreatesOfExpr, CreatesOfPairs, Substitutes}
 use Rattle.cedar_evaluator_contexts.proofs.Alike.{left_same}
-
--- a context is made of what is left, or nothing is left
-abbrev pub MakesContext : Left → Type 0
-MakesContext (stopped s) = Unit {0}
-MakesContext l = IsSome (context_from l)
-
-by_known : (o : Option (List Made)) (next : List Made → Left) (r : Tree) → ((ms : List Made) → MakesContext (next ms)) → MakesContext (residual r) → MakesContext (option_map_or next o (residual r))
-by_known None next r h k = k
-by_known (Some ms) next r h k = h ms
-
-of_pieces : (names : _) (ps : Pieces) → MakesContext (record_left names ps)
-of_pieces names (halted s) = tt
-of_pieces names (pieces qs) = by_known (all_known qs) _ (record_literal (tree_fields (zip names (map part_tree qs)))) (λ ms. refl) refl
-
-of_record : (s : Scope) (n : ℕ) (fs : TreeFields) → MakesContext (evaluated s n (record_literal fs))
-of_record s zero fs = tt
-of_record s (suc n) fs = of_pieces (keys_of (listed_fields fs)) (pieces_of (evaluated s n) (values_of (listed_fields fs)))
-
-both : (t : Tree) (l : Left) → Clean t l → MakesContext l → IsLeftOfRecord l
-both t (value_left m) c k = k
-both t (residual r) c k = (k, c.0, ap is_none c.1)
-both t (stopped s) c k = tt
 
 functions_of : Scope → Functions
 functions_of s = record { table = s.table; calls = s.calls }
 
-fields_left : (s : Scope) (fs : TreeFields) → is_restricted (record_literal fs) ≡ true → IsLeftOfRecord (restricted_left s (record_literal fs))
+fields_left : (s : Scope) (fs : TreeFields) → is_restricted (record_literal fs) ≡ true → IsOfRecord (restricted_left s (record_literal fs))
 unfolding functions_of
 fields_left s fs r =
     let x = functions_of s in
@@ -66,13 +46,13 @@ fields_of : (t : Tree) → IsSome (fields_read t) → (fs : TreeFields) × (reco
 fields_of (record_literal fs) k = (fs, refl)
 fields_of t k = cc
 
-pub left_of_record : (s : Scope) (t : Tree) → is_restricted t ≡ true → IsSome (fields_read t) → IsLeftOfRecord (restricted_left s t)
-left_of_record s t r k = let f = fields_of t k in subst (λ u. IsLeftOfRecord (restricted_left s u)) f.1 (fields_left s f.0 (ap is_restricted f.1 ∙ r))
+pub left_of_record : (s : Scope) (t : Tree) → is_restricted t ≡ true → IsSome (fields_read t) → IsOfRecord (restricted_left s t)
+left_of_record s t r k = let f = fields_of t k in subst (λ u. IsOfRecord (restricted_left s u)) f.1 (fields_left s f.0 (ap is_restricted f.1 ∙ r))
 
 -- what a context becomes, where what is left is left of a record
-pub evaluates : (t : Tree) (l k : Left) (r : Result code.Context EvaluationError) → l ≡ k → (IsSome (fields_read t) → IsLeftOfRecord l) → Becomes k r → Evaluates t l r
+pub evaluates : (t : Tree) (l k : Left) (r : Result code.Context EvaluationError) → l ≡ k → (IsSome (fields_read t) → IsOfRecord l) → Becomes k r → Evaluates t l r
 evaluates t l k (Ok c) e h b = ap context_from e ∙ b
-evaluates t l k (Err x) e h b = λ i other m. absurd (b m (subst IsLeftOfRecord e (h i)))
+evaluates t l k (Err x) e h b = λ i other m. absurd (b m (subst IsOfRecord e (h i)))
 
 -- with values in the place of its unknowns it stays restricted
 pub stays_restricted : (values : Bindings) (t : Tree) → is_restricted t ≡ true → is_restricted (substituted values t) ≡ true

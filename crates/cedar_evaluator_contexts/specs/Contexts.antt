@@ -5,9 +5,7 @@ use Rattle.cedar_expr_model.specs.Name.{Text}
 use Rattle.cedar_expr_model.specs.Made.{written_fields}
 use Rattle.cedar_expr_model.specs.Parts.{listed_fields}
 use Rattle.cedar_expr_model.specs.Repeats.{repeated_name}
-use Rattle.cedar_expr_model.specs.Restricted.{is_restricted}
 use Rattle.cedar_expr_model.specs.Tree.{Tree}
-use Rattle.cedar_expr_model.specs.Unknowns.{has_unknown}
 use Rattle.cedar_expr_trees.specs.Trees.{tree_of}
 use Rattle.cedar_expr_trees.specs.Refusals.{repeated_key, repeated_context}
 use Rattle.cedar_expr_trees.specs.declared.err.ExpressionConstructionError.{ExpressionConstructionError}
@@ -21,22 +19,17 @@ use Rattle.cedar_evaluator_errors.specs.declared.restricted.ContextCreationError
 use Rattle.cedar_evaluator_errors.specs.declared.restricted.ContextCreationError.TheVariants.{OutOfMemory, NotARecord, Evaluation, ExpressionConstruction}
 use Rattle.cedar_evaluator_requests.specs.Views.{context_of}
 use Rattle.cedar_evaluator_requests.specs.declared.context.Context as code
+use Rattle.cedar_evaluator_restricted_exprs.specs.Contexts.{IsOfRecord}
 use Rattle.cedar_evaluator_restricted_exprs.specs.Read.{fields_read}
 
 -- It stopped so. Out of memory says nothing.
 abbrev pub StoppedBy : Left → EvaluationError → Type 0
 StoppedBy l e = (other : Stop) → is_memory e ≡ false → l ≡ stopped (stop_or other e)
 
--- what is left of a record: a record of values, or one of restricted expressions in which an unknown stands
-abbrev pub IsLeftOfRecord : Left → Type 0
-IsLeftOfRecord (value_left m) = IsSome (context_from (value_left m))
-IsLeftOfRecord (residual r) = IsSome (context_from (residual r)) × (has_unknown r ≡ true) × (is_restricted r ≡ true)
-IsLeftOfRecord (stopped s) = Unit {0}
-
 -- What is left is this context. It is refused only where it isn't left of a record, or when out of memory.
 abbrev pub Becomes : Left → Result code.Context EvaluationError → Type 0
 Becomes l (Ok c) = context_from l ≡ Some (context_of c)
-Becomes l (Err e) = is_memory e ≡ false → IsLeftOfRecord l → ⊥
+Becomes l (Err e) = is_memory e ≡ false → IsOfRecord l → ⊥
 
 -- This context is what is left of the expression, or it stopped so, where it is a record.
 abbrev pub Evaluates : Tree → Left → Result code.Context EvaluationError → Type 0

@@ -22,7 +22,7 @@ use Rattle.cedar_evaluator_errors.specs.Outcomes.{Leaves, IsTree, is_memory, sto
 use Rattle.cedar_evaluator_errors.specs.declared.err.EvaluationError.{EvaluationError}
 use Rattle.cedar_evaluator_reads.specs.Scopes.{scope_seen}
 use Rattle.cedar_evaluator_reads.specs.declared.knowledge.Knowledge.{Knowledge}
-use Rattle.cedar_evaluator_operators.specs.Calls.{Functions}
+use Rattle.cedar_evaluator_errors.specs.Calls.{Functions}
 use Rattle.cedar_evaluator_operators.specs.Scopes.{scope_of}
 use Rattle.cedar_evaluator_core.specs.Walked.{LeavesWithin, LeavesLevel, BestWithin}
 

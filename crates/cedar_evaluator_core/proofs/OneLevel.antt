@@ -31,7 +31,7 @@ use Rattle.cedar_evaluator_errors.specs.Outcomes.{Leaves, left_seen, is_memory, 
 use Rattle.cedar_evaluator_errors.specs.declared.err.EvaluationError.{EvaluationError}
 use Rattle.cedar_evaluator_reads.specs.Scopes.{scope_seen}
 use Rattle.cedar_evaluator_reads.specs.declared.knowledge.Knowledge.{Knowledge}
-use Rattle.cedar_evaluator_operators.specs.Calls.{Functions}
+use Rattle.cedar_evaluator_errors.specs.Calls.{Functions}
 use Rattle.cedar_evaluator_operators.specs.Scopes.{scope_of, scope_ordering}
 use Rattle.cedar_evaluator_operators.proofs.Alike.{attribute_alike, test_alike, path_alike, binary_alike}
 use Rattle.cedar_evaluator_core.specs.Gathered.{parts_of}

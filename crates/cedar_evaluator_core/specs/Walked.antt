@@ -16,7 +16,7 @@ use Rattle.cedar_evaluator_model.specs.Steps.{Pieces, best}
 use Rattle.cedar_evaluator_model.specs.Evaluation.{evaluated, node, get_of_residual, pieces_of}
 use Rattle.cedar_evaluator_errors.specs.Outcomes.{Leaves, IsTree}
 use Rattle.cedar_evaluator_errors.specs.declared.err.EvaluationError.{EvaluationError}
-use Rattle.cedar_evaluator_operators.specs.Calls.{Functions}
+use Rattle.cedar_evaluator_errors.specs.Calls.{Functions}
 use Rattle.cedar_evaluator_operators.specs.Scopes.{scope_of}
 use Rattle.cedar_evaluator_reads.specs.declared.knowledge.Knowledge.{Knowledge}
 use Rattle.cedar_evaluator_core.specs.Gathered.{ArePieces}

@@ -8,7 +8,7 @@ ghost use Rattle.cedar_expr_values.specs.Extensions.{extension_of};
 ghost use Rattle.cedar_expr_values.specs.Values.{made};
 ghost use Rattle.cedar_evaluator_model.specs.Steps.{pieces, from_pieces, called_left};
 ghost use Rattle.cedar_evaluator_errors.specs.Outcomes.{Leaves};
-ghost use Rattle.cedar_evaluator_operators.specs.Calls.{Functions};
+ghost use Rattle.cedar_evaluator_errors.specs.Calls.{Functions};
 ghost use Rattle.cedar_evaluator_operators.specs.Scopes.{scope_of};
 ghost use Rattle.cedar_evaluator_core.specs.Gathered.{parts_of};
 

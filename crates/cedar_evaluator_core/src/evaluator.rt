@@ -15,7 +15,7 @@ ghost use Rattle.cedar_evaluator_model.specs.Steps.{on_value, truth_wanted};
 ghost use Rattle.cedar_evaluator_model.specs.Evaluation.{evaluated};
 ghost use Rattle.cedar_evaluator_errors.specs.Outcomes.{Leaves};
 ghost use Rattle.cedar_evaluator_requests.specs.Views.{request_of};
-ghost use Rattle.cedar_evaluator_operators.specs.Calls.{Functions};
+ghost use Rattle.cedar_evaluator_errors.specs.Calls.{Functions};
 ghost use Rattle.cedar_evaluator_reads.specs.Scopes.{values_in};
 ghost use Rattle.cedar_store_model.specs.World.{World};
 ghost use Rattle.cedar_evaluator_core.specs.Completed.{IsCompletion, StandsIn, IsWithin, IsOutcomeIn};

@@ -1,3 +1,5 @@
+pub mod Answers
+pub mod Calls
 pub mod Contents
 pub mod Outcomes
 pub mod Places

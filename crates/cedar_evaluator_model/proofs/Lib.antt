@@ -17,5 +17,6 @@ pub mod Limits
 pub mod Responses
 pub mod Forced
 pub mod Written
+pub mod Represented
 pub mod Again
 pub mod Residuals

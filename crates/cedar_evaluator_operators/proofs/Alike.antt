@@ -21,7 +21,7 @@ use Rattle.cedar_evaluator_model.specs.Evaluation.{variable_left, binary_left}
 use Rattle.cedar_evaluator_reads.specs.Scopes.{scope_seen}
 use Rattle.cedar_evaluator_reads.specs.declared.knowledge.Knowledge.{Knowledge}
 use Rattle.cedar_evaluator_operators.specs.Arithmetic.{order_of, table_ordering}
-use Rattle.cedar_evaluator_operators.specs.Calls.{Functions}
+use Rattle.cedar_evaluator_errors.specs.Calls.{Functions}
 use Rattle.cedar_evaluator_operators.specs.Scopes.{scope_of, scope_ordering}
 use Rattle.cedar_evaluator_operators.proofs.Ordered.{ordered_by_order}
 

@@ -1,4 +1,3 @@
 pub mod Ordered
 pub mod Lists
-pub mod Called
 pub mod Alike

@@ -8,7 +8,7 @@ use Rattle.cedar_evaluator_model.specs.Scope.{Scope}
 use Rattle.cedar_evaluator_reads.specs.Scopes.{scope_seen}
 use Rattle.cedar_evaluator_reads.specs.declared.knowledge.Knowledge.{Knowledge}
 use Rattle.cedar_evaluator_operators.specs.Arithmetic.{table_ordering}
-use Rattle.cedar_evaluator_operators.specs.Calls.{Functions}
+use Rattle.cedar_evaluator_errors.specs.Calls.{Functions}
 
 -- The scope, where the table's functions answer so.
 unfoldable pub scope_of : {T : Type 0} → (T → (Name → List V → Called) → Table) → Functions → Knowledge T → Scope

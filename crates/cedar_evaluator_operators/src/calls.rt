@@ -17,8 +17,8 @@ ghost use Rattle.cedar_expr_values.specs.Types.{core_of};
 ghost use Rattle.cedar_expr_values.specs.Values.{made};
 ghost use Rattle.cedar_evaluator_model.specs.Scope.{MadeCalled, value_left, residual};
 ghost use Rattle.cedar_evaluator_errors.specs.Outcomes.{Leaves};
-ghost use Rattle.cedar_evaluator_operators.specs.Calls.{call_by};
-ghost use Rattle.cedar_evaluator_operators.specs.Answers.{IsMadeBy, AnswersMade};
+ghost use Rattle.cedar_evaluator_errors.specs.Calls.{call_by};
+ghost use Rattle.cedar_evaluator_errors.specs.Answers.{IsMadeBy, AnswersMade};
 
 use crate::table::FunctionTable;
 use cedar_evaluator_errors::EvaluationError;

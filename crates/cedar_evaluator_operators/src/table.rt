@@ -12,7 +12,7 @@ ghost use Rattle.cedar_expr_values.specs.Extensions.{extension_of};
 ghost use Rattle.cedar_expr_values.specs.Values.{made};
 ghost use Rattle.cedar_evaluator_model.specs.Scope.{MadeCalled};
 ghost use Rattle.cedar_evaluator_errors.specs.Outcomes.{Leaves};
-ghost use Rattle.cedar_evaluator_operators.specs.Calls.{called_by};
+ghost use Rattle.cedar_evaluator_errors.specs.Calls.{called_by};
 ghost use Rattle.cedar_evaluator_reads.specs.Errors.{expected_types};
 
 use cedar_evaluator_errors::EvaluationError;

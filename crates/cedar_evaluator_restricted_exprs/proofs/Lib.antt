@@ -1,7 +1,6 @@
 mod Names
 mod Parted
 mod Reading
-pub mod Alike
 pub mod Called
 pub mod Gathered
 pub mod Levels

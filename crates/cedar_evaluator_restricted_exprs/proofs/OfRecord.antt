@@ -1,5 +1,5 @@
 -- What is left of a record is one, and the context that is made of it.
-use Rattle.std.proofs.Common.{◌≡◌, ℕ, zero, suc, true, List, map, Option, Some, None, IsSome, Result, Ok, Err, IfOk, refl, ap}
+use Rattle.std.proofs.Common.{◌≡◌, ℕ, zero, suc, true, List, map, Option, Some, None, IsSome, Result, Ok, Err, IfOk, refl, sym, ap}
 use Rattle.std.specs.Prelude.{is_none, zip, option_map}
 use Rattle.std.specs.Map.{keys_of, values_of}
 use Rattle.std.specs.Option.{option_map_or}
@@ -12,17 +12,17 @@ use Rattle.cedar_expr_model.specs.Unknowns.{has_unknown}
 use Rattle.cedar_expr_model.specs.ValueParts.{all_known, part_tree}
 use Rattle.cedar_evaluator_model.specs.Evaluation.{pieces_of, evaluated}
 use Rattle.cedar_evaluator_model.specs.Reauthorize.{context_from}
-use Rattle.cedar_evaluator_model.specs.Scope.{Left, value_left, residual, stopped}
+use Rattle.cedar_evaluator_model.specs.Scope.{Scope, Left, value_left, residual, stopped}
 use Rattle.cedar_evaluator_model.specs.Steps.{Pieces, pieces, halted, record_left}
 use Rattle.cedar_evaluator_requests.specs.Views.{context_of}
 use Rattle.cedar_evaluator_requests.specs.declared.context.Context as code
 use Rattle.cedar_gate_model.specs.Bundle.{Functions}
 use Rattle.cedar_gate_model.specs.ReadingValue.{with_functions, left_of_restricted}
 use Rattle.cedar_gate_model.proofs.Reading.Values.{Clean, evaluated_clean, none_is}
-use Rattle.cedar_evaluator_restricted_exprs.specs.Contexts.{IsOfRecord}
+use Rattle.cedar_evaluator_restricted_exprs.specs.Contexts.{IsOfRecord, IsContextOf}
 
 -- a context is made of what is left, or nothing is left
-abbrev MakesContext : Left → Type 0
+abbrev pub MakesContext : Left → Type 0
 MakesContext (stopped s) = Unit {0}
 MakesContext l = IsSome (context_from l)
 
@@ -34,11 +34,11 @@ of_pieces : (names : _) (ps : Pieces) → MakesContext (record_left names ps)
 of_pieces names (halted s) = tt
 of_pieces names (pieces qs) = by_known (all_known qs) _ (record_literal (tree_fields (zip names (map part_tree qs)))) (λ ms. refl) refl
 
-of_record : (f : Functions) (n : ℕ) (fs : TreeFields) → MakesContext (evaluated (with_functions f) n (record_literal fs))
-of_record f zero fs = tt
-of_record f (suc n) fs = of_pieces (keys_of (listed_fields fs)) (pieces_of (evaluated (with_functions f) n) (values_of (listed_fields fs)))
+pub of_record : (s : Scope) (n : ℕ) (fs : TreeFields) → MakesContext (evaluated s n (record_literal fs))
+of_record s zero fs = tt
+of_record s (suc n) fs = of_pieces (keys_of (listed_fields fs)) (pieces_of (evaluated s n) (values_of (listed_fields fs)))
 
-both : (t : Tree) (l : Left) → Clean t l → MakesContext l → IsOfRecord l
+pub both : (t : Tree) (l : Left) → Clean t l → MakesContext l → IsOfRecord l
 both t (value_left m) c k = k
 both t (residual r) c k = (k, c.0, ap is_none c.1)
 both t (stopped s) c k = tt
@@ -47,7 +47,7 @@ both t (stopped s) c k = tt
 pub left_is_of_record : (f : Functions) (fs : TreeFields) → is_restricted (record_literal fs) ≡ true → IsOfRecord (left_of_restricted f (record_literal fs))
 left_is_of_record f fs r =
     let t = record_literal fs in
-    both t (left_of_restricted f t) (evaluated_clean f 512 t (none_is (offence t) r)) (of_record f 512 fs)
+    both t (left_of_restricted f t) (evaluated_clean f 512 t (none_is (offence t) r)) (of_record (with_functions f) 512 fs)
 
 ok_each : {A E : Type 0} {P Q : A → Type 0} (q : Result A E) → ((a : A) → P a → Q a) → IfOk q P → IfOk q Q
 ok_each (Ok a) f h = f a h
@@ -60,3 +60,10 @@ residual_made q t h = ok_each q (λ c made k. made k.2 k.1) h
 
 pub value_made : {E : Type 0} (q : Result (Option code.Context) E) (l : Left) → IfOk q (λ c. option_map context_of c ≡ context_from l) → IfOk q (λ c. IsOfRecord l → option_map context_of c ≡ context_from l)
 value_made q l h = ok_each q (λ c made k. made) h
+
+context_is : (l : Left) (c : Option code.Context) → option_map context_of c ≡ context_from l → IsContextOf l c
+context_is l None e = tt
+context_is l (Some k) e = sym e
+
+pub some_made : {E : Type 0} (q : Result (Option code.Context) E) (l : Left) → IfOk q (λ c. option_map context_of c ≡ context_from l) → IfOk q (IsContextOf l)
+some_made q l h = ok_each q (context_is l) h

@@ -2,7 +2,6 @@ pub mod Read
 pub mod Refused
 pub mod Shapes
 pub mod Views
-pub mod Alike
 pub mod Answers
 pub mod Lefts
 pub mod Restricted

@@ -13,7 +13,8 @@ ghost use Rattle.cedar_evaluator_model.specs.Scope.{Scope};
 ghost use Rattle.cedar_evaluator_model.specs.Steps.{call_left, called_left};
 ghost use Rattle.cedar_gate_model.specs.Bundle.{Functions};
 ghost use Rattle.cedar_gate_model.specs.ReadingValue.{with_functions};
-ghost use Rattle.cedar_evaluator_restricted_exprs.specs.Answers.{IsMadeBy, AnswersMade, AgreesWith};
+ghost use Rattle.cedar_evaluator_errors.specs.Answers.{IsMadeBy, AnswersMade};
+ghost use Rattle.cedar_evaluator_restricted_exprs.specs.Answers.{AgreesWith};
 ghost use Rattle.cedar_evaluator_restricted_exprs.specs.Lefts.{Leaves};
 
 use crate::fault::RestrictedFault;

@@ -9,7 +9,7 @@ ghost use Rattle.cedar_expr_values.specs.Values.{made};
 ghost use Rattle.cedar_evaluator_model.specs.Reauthorize.{context_from};
 ghost use Rattle.cedar_evaluator_model.specs.Scope.{value_left, residual};
 ghost use Rattle.cedar_evaluator_requests.specs.Views.{context_of};
-ghost use Rattle.cedar_evaluator_restricted_exprs.specs.Contexts.{IsOfRecord};
+ghost use Rattle.cedar_evaluator_restricted_exprs.specs.Contexts.{IsOfRecord, IsContextOf};
 ghost use Rattle.cedar_evaluator_restricted_exprs.specs.Lefts.{left_seen};
 
 use crate::borrowed::BorrowedRestrictedExpr;
@@ -23,13 +23,14 @@ use std::alloc::{AllocError, Global};
 
 /// The context that is left of a record: one of values, or one in which an unknown stands; none of what isn't left of a record. Fails only
 /// out of memory.
-#[tactic(auto, using(crate::proofs::OfRecord::residual_made, crate::proofs::OfRecord::value_made))]
-pub fn context_left(alloc: Global, left: Left) -> Result<Option<Context>, AllocError>
-    ensures { IfOk result (λ c. IsOfRecord (left_seen left) → option_map context_of c ≡ context_from (left_seen left)) }
+#[tactic(auto, using(crate::proofs::OfRecord::residual_made, crate::proofs::OfRecord::value_made, crate::proofs::OfRecord::some_made))]
+pub fn context_left(alloc: Global, left: &Left) -> Result<Option<Context>, AllocError>
+    ensures context { IfOk result (λ c. IsOfRecord (left_seen left.now) → option_map context_of c ≡ context_from (left_seen left.now)) }
+    ensures some { IfOk result (IsContextOf (left_seen left.now)) }
 {
     match left {
-        PartialValue::Value(v) => context_of_value(&v),
-        PartialValue::Residual(e) => context_of_expr(alloc, &e),
+        PartialValue::Value(v) => context_of_value(v),
+        PartialValue::Residual(e) => context_of_expr(alloc, e),
     }
 }
 
@@ -44,8 +45,10 @@ fn context_of_value(v: &V) -> Result<Option<Context>, AllocError>
 }
 
 // The context that an expression is, if it is restricted and an unknown stands in it.
+#[tactic(auto, using(crate::proofs::OfRecord::some_made))]
 fn context_of_expr(alloc: Global, e: &Expr) -> Result<Option<Context>, AllocError>
-    ensures { IfOk result (λ c. is_restricted (tree_of e.now) ≡ true → has_unknown (tree_of e.now) ≡ true → option_map context_of c ≡ context_from (residual (tree_of e.now))) }
+    ensures some { IfOk result (IsContextOf (residual (tree_of e.now))) }
+    ensures context { IfOk result (λ c. is_restricted (tree_of e.now) ≡ true → has_unknown (tree_of e.now) ≡ true → option_map context_of c ≡ context_from (residual (tree_of e.now))) }
 {
     if !e.contains_unknown() {
         return Ok(None);

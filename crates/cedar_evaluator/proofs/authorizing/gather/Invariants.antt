@@ -3,7 +3,7 @@ use Rattle.cedar_store_model.specs.Policy.{no_bindings}
 use Rattle.cedar_store_policies.specs.Policies.{policy_of}
 use Rattle.cedar_store_policies.specs.PolicySets.{set_of}
 use Rattle.cedar_evaluator_model.specs.Response.{response_of}
-use Rattle.cedar_evaluator_operators.specs.Calls.{Functions}
+use Rattle.cedar_evaluator_errors.specs.Calls.{Functions}
 use Rattle.cedar_evaluator_core.specs.Evaluators.{asked_of, table_in, limit_of, scope_in}
 use Rattle.cedar_evaluator.specs.Gathering.{gathered}
 use Rattle.cedar_evaluator.proofs.authorizing.gather.Given as goal

@@ -1,7 +1,7 @@
 use Rattle.std.proofs.Common.{◌+◌, ◌*◌, drop, length}
 use Rattle.std.specs.BTreeMap.{values}
 use Rattle.cedar_evaluator_model.specs.Evaluation.{evaluated}
-use Rattle.cedar_evaluator_operators.specs.Calls.{Functions}
+use Rattle.cedar_evaluator_errors.specs.Calls.{Functions}
 use Rattle.cedar_evaluator_operators.specs.Scopes.{scope_of}
 use Rattle.cedar_evaluator_core.proofs.Gathered.{SoFar, trees_in}
 use Rattle.cedar_evaluator_core.proofs.walk.+walk.Given as goal

@@ -3,7 +3,7 @@ use Rattle.cedar_expr_values.specs.Types.{core_of}
 use Rattle.cedar_expr_functions.specs.Functions.{function_signature}
 use Rattle.cedar_evaluator_errors.specs.Outcomes.{Leaves}
 use Rattle.cedar_evaluator_model.specs.Steps.{answer_left}
-use Rattle.cedar_evaluator_operators.proofs.Called.{taken, mistyped}
+use Rattle.cedar_evaluator_errors.proofs.Called.{taken, mistyped}
 use Rattle.cedar_evaluator_operators.proofs.calls.ask.Goals as goal
 
 pub returns-in-Ok-Known : goal.returns-in-Ok-Known

@@ -6,8 +6,8 @@ use Rattle.cedar_expr_values.specs.Values.{made}
 use Rattle.cedar_store_model.specs.Outcome.{no_function}
 use Rattle.cedar_evaluator_model.specs.Steps.{errs}
 use Rattle.cedar_evaluator_errors.specs.Outcomes.{Leaves}
-use Rattle.cedar_evaluator_operators.specs.Calls.{call_by}
-use Rattle.cedar_evaluator_operators.proofs.Called.{found_made}
+use Rattle.cedar_evaluator_errors.specs.Calls.{call_by}
+use Rattle.cedar_evaluator_errors.proofs.Called.{found_made}
 use Rattle.cedar_evaluator_operators.proofs.calls.ExtensionsFunctionTable.call.Goals as goal
 
 pub returns-in-Ok : goal.returns-in-Ok

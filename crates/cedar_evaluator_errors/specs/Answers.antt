@@ -1,6 +1,6 @@
 -- How the functions of a table answer, with the calls that make their values.
 -- Rule: extension functions (docs/RULES.md).
-use Rattle.std.specs.Prelude.{◌≡◌, List, true, Option, Some, None, All, Result, Ok, Err, map}
+use Rattle.std.specs.Prelude.{◌≡◌, List, true, Contains, Result, Ok, Err, map}
 use Rattle.std.specs.Borrow.{Bor}
 use Rattle.std.specs.declared.alloc.Global.{Global}
 use Rattle.cedar_expr_model.specs.Name.{Name}
@@ -33,8 +33,9 @@ IsAnswer c (Err (Fault e m a)) = c ≡ faults (plain_name_of e)
 
 -- The function answers so, on arguments that it takes.
 pub record IsMadeBy {B : _} {F : _} {g : _} (f : ExtensionFunction B F g) (answers : List Made → MadeCalled) : Type 0 where
-  pub agreeing : (a : Global) (xs : Bor (List (Value ExtValue))) (r : Result ExtensionOutputValue CallFault) → takes (function_signature f) (bare_values xs.now) ≡ true → MayAnswer f a xs r → IsAnswer (answers (map (made extension_of) xs.now)) r
+  pub agreeing : (a : Global) (xs : Bor (List (Value ExtValue))) (r : Result ExtensionOutputValue CallFault) → takes (function_signature f) (bare_values xs.now) ≡ true
+      → MayAnswer f a xs r → IsAnswer (answers (map (made extension_of) xs.now)) r
 
 -- Each function of the table does.
 pub record AnswersMade {B : _} {F : _} {g : _} (t : Extensions B F g) (calls : Name → List Made → MadeCalled) : Type 0 where
-  pub each : All (λ f. IsMadeBy f (calls (function_name f))) (stored_in t)
+  pub each : (f : ExtensionFunction B F g) → Contains (stored_in t) f → IsMadeBy f (calls (function_name f))

@@ -1,8 +1,6 @@
 -- What a call comes to, by what the function answers.
 use Rattle.std.proofs.Common.{◌≡◌, ◌&&◌, Bool, true, false, cond, List, [], ◌∷◌, map, length, Some, None, is_none, refl, sym, ap, ◌∙◌, subst}
-use Rattle.std.specs.Prelude.{All, Contains}
 use Rattle.std.proofs.lemmas.List.{length-map}
-use Rattle.std.proofs.lemmas.List.Elements.{All-contains}
 use Rattle.cedar_expr_model.specs.Name.{Name}
 use Rattle.cedar_expr_model.specs.Made as model
 use Rattle.cedar_expr_model.specs.Made.{Made}
@@ -12,17 +10,16 @@ use Rattle.cedar_expr_values.specs.Extensions.{extension_of}
 use Rattle.cedar_expr_values.specs.Values.{made}
 use Rattle.cedar_expr_values.specs.declared.value.Value.{Value}
 use Rattle.cedar_expr_values.specs.declared.extension.ExtValue.{ExtValue}
-use Rattle.cedar_expr_functions.specs.Functions.{function_name}
 use Rattle.cedar_expr_functions.specs.Signatures.{takes, bare_values, first_mistyped}
-use Rattle.cedar_expr_functions.specs.Tables.{IsNamedIn, stored_in}
+use Rattle.cedar_expr_functions.specs.Tables.{IsNamedIn}
 use Rattle.cedar_expr_functions.specs.declared.extension.ExtensionFunction.{ExtensionFunction}
 use Rattle.cedar_expr_functions.specs.declared.extensions.Extensions.{Extensions}
 use Rattle.cedar_expr_functions.proofs.Mistyped.{of_types}
 use Rattle.cedar_store_model.specs.Outcome.{wrong_type, wrong_count}
 use Rattle.cedar_evaluator_model.specs.Scope.{MadeCalled, Left}
 use Rattle.cedar_evaluator_model.specs.Steps.{errs, answer_left}
-use Rattle.cedar_evaluator_operators.specs.Calls.{call_by}
-use Rattle.cedar_evaluator_operators.specs.Answers.{IsMadeBy, AnswersMade}
+use Rattle.cedar_evaluator_errors.specs.Calls.{call_by}
+use Rattle.cedar_evaluator_errors.specs.Answers.{IsMadeBy, AnswersMade}
 
 abbrev pub as_made : List (Value ExtValue) → List Made
 as_made vs = map (made extension_of) vs
@@ -63,4 +60,4 @@ module _ (calls : Name → List Made → MadeCalled) (n : Name) (vs : List (Valu
 
 -- a function that a table finds under a name answers as the table does
 pub found_made : {B : _} {F : _} {g : _} {t : Extensions B F g} {calls : Name → List Made → MadeCalled} {n : Name} {f : ExtensionFunction B F g} → AnswersMade t calls → IsNamedIn t n f → IsMadeBy f (calls n)
-found_made {B} {F} {g} {t} {calls} {n} {f} h is = subst (λ m. IsMadeBy f (calls m)) is.named (All-contains (λ k. IsMadeBy k (calls (function_name k))) (stored_in t) f h.each is.among)
+found_made {B} {F} {g} {t} {calls} {n} {f} h is = subst (λ m. IsMadeBy f (calls m)) is.named (h.each f is.among)
