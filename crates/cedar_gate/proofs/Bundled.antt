@@ -2,6 +2,7 @@
 use Rattle.std.proofs.Common.{◌≡◌, ◌∙◌, ℕ, List, Option, Some, None, option_map, map, Result, Ok, Err, IfOk, string_bytes, refl, sym, ap, subst}
 use Rattle.std.specs.Map.{lookup}
 use Rattle.std.specs.declared.alloc.AllocError.{AllocError}
+use Rattle.cedar_evaluator_model.proofs.Represented.{context_represented, represented_of_well}
 use Rattle.cedar_evaluator_model.specs.OfLaws.WellMade.{IsContextMadeWell}
 use Rattle.cedar_evaluator_requests.specs.Views.{request_of}
 use Rattle.cedar_evaluator_restricted_exprs.specs.Answers.{AgreesWith}
@@ -90,9 +91,9 @@ accepted_prints {B} {F} {γ} b g t (Ok p) accepted held same warned h = λ x fai
         table = proper.fair.table;
         fair = subst (λ (y : Extensions B F γ). IsFair y x) (sym same) fair;
         start = refl;
-        context = well.context;
+        context = context_represented x.table (request_of b.request).context well.context;
         steps = refl;
-        bound = proper.values;
+        bound = λ v k. represented_of_well x.table v.1 (proper.values v k);
         store = proper.store;
       };
       warned = warned x fair.agrees;

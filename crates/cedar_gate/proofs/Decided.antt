@@ -1,5 +1,5 @@
 -- What a check says decides whether an entity or a request conforms.
-use Rattle.std.proofs.Common.{◌≡◌, Bool, true, false, List, [], ◌∷◌, Option, Some, None, is_some, Result, Ok, Err, OnOk, IfOk, IfErr, IfSome, refl, sym, ap, ◌∙◌, ◌&&◌}
+use Rattle.std.proofs.Common.{◌≡◌, Bool, true, false, List, [], ◌∷◌, Option, Some, None, is_some, is_ok, Result, Ok, Err, OnOk, IfOk, IfErr, IfSome, refl, sym, ap, ◌∙◌, ◌&&◌}
 use Rattle.std.specs.Prelude.{not, find, if◌then◌else◌}
 use Rattle.std.specs.List.{list_all}
 use Rattle.std.specs.declared.alloc.AllocError.{AllocError}
@@ -14,7 +14,7 @@ use Rattle.cedar_schema_model.specs.Schema.{Schema}
 use Rattle.cedar_schema_model.specs.Kept.{Kept}
 use Rattle.cedar_gate_accepted.specs.Alike.{IsKeptByTests}
 use Rattle.cedar_gate_accepted.proofs.Tested.{tested_alike}
-use Rattle.cedar_gate_conforming.specs.Faults.{fault_seen, IsThere}
+use Rattle.cedar_gate_conforming.specs.Faults.{fault_seen, IsThere, IsTold}
 use Rattle.cedar_gate_conforming.specs.declared.faults.ConformFault as code
 use Rattle.cedar_gate_model.specs.Alike.{ConformsAlike}
 use Rattle.cedar_gate_model.specs.ConformingLaws.{DeclaredConformAlike}
@@ -62,13 +62,13 @@ module _ (law : DeclaredConformAlike) (d : Declarations) (k : Kept) (h : IsKeptB
       tested_alike (schema_of d) k h b (request_conforms (schema_of d) q)
       (λ w. decided (has_request_fault (schema_of d) q) r b v (ok (schema_of d) (law d k w)) (err (schema_of d) (law d k w)))
 
--- and so it does where memory may be wanting
-module _ (law : DeclaredConformAlike) (d : Declarations) (k : Kept) (h : IsKeptByTests (schema_of d) k) (r : Result Unit code.ConformFault) where
-  pub entity_told : (u : Uid) (e : Entity V) → ((s : Schema) → ConformsAlike s k → OnOk r (EntityConforms s u e)) → ((s : Schema) → ConformsAlike s k → IfErr r (IsThere (has_entity_fault s u e)))
-      → (q : Result Bool AllocError) → IfOk q (λ b. IsVerdict r b) → IfOk q (λ b. b ≡ entity_conforms (schema_of d) u e)
-  entity_told u e ok err (Ok b) v = entity_decided law d k h r b v u e ok err
-  entity_told u e ok err (Err x) v = tt
+-- a check that isn't out of memory
+pub verdict_told : (r : Result Unit code.ConformFault) (b : Bool) → b ≡ is_ok r → IfErr r IsTold → IsVerdict r b
+verdict_told (Ok u) b e told = e
+verdict_told (Err f) b e told = (e, told)
 
+-- and so it does where it may be out of memory
+module _ (law : DeclaredConformAlike) (d : Declarations) (k : Kept) (h : IsKeptByTests (schema_of d) k) (r : Result Unit code.ConformFault) where
   pub request_told : (o : OpenRequest) → ((s : Schema) → ConformsAlike s k → OnOk r (RequestConforms s o)) → ((s : Schema) → ConformsAlike s k → IfErr r (IsThere (has_request_fault s o)))
       → (q : Result Bool AllocError) → IfOk q (λ b. IsVerdict r b) → IfOk q (λ b. b ≡ request_conforms (schema_of d) o)
   request_told o ok err (Ok b) v = request_decided law d k h r b v o ok err

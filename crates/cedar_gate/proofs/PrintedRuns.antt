@@ -3,6 +3,7 @@ use Rattle.std.proofs.Common.{◌≡◌, ◌++◌, ◌∙◌, ℕ, List, [], Som
 use Rattle.std.specs.List.{flat_map}
 use Rattle.std.specs.Prelude.{codes, option_map, Result, Ok, Err, IfOk}
 use Rattle.cedar_expr_model.specs.Name.{Text}
+use Rattle.cedar_evaluator_model.proofs.Represented.{entity_represented}
 use Rattle.cedar_evaluator_model.specs.Laws.{as_concrete}
 use Rattle.cedar_evaluator_requests.specs.Views.{answer_of}
 use Rattle.cedar_evaluator_requests.specs.declared.response.Response.{Response}
@@ -16,6 +17,7 @@ use Rattle.cedar_gate_model.specs.Acceptance.{warnings_of}
 use Rattle.cedar_gate_model.specs.Lines.{Status, warning_lines, entry_lines, end_lines, end_status, numbered, is_answered, is_stopped}
 use Rattle.cedar_gate_model.specs.Runs.{End, answered, opening_refused, supply_refused, binding_refused, answer_refused}
 use Rattle.cedar_gate_model.specs.RunsAnswer.{Course, IsRun}
+use Rattle.cedar_gate_model.specs.Session.{at_start}
 use Rattle.cedar_gate_model.specs.Transcript.{Entry}
 use Rattle.cedar_gate_runs.specs.Courses.{IsHost}
 use Rattle.cedar_gate_runs.specs.Ends.{IsAnswered, IsStopped}
@@ -57,11 +59,11 @@ module _ (c : Course) (before after : Text) where
   stop_adds (Answering n t) added (f, e, run) = refused (entries_of t.entries.items) (answer_refused f) (codes "answer") n _ run e refl refl added
 
 -- the host of the store of a course
-pub store_hosts : (c : Course) (es : Entities) (h : StoreHost) → store_of h ≡ stored (store_made es) → IsStore c es → IsHost {H = StoreHost} (λ h. Unit {0}) store_of c h
+pub store_hosts : (c : Course) (es : Entities) (h : StoreHost) → store_of h ≡ stored (store_made es) → IsStore c es → IsHost {H = StoreHost} (λ h. Unit {0}) store_of c at_start c.steps h
 store_hosts c es h same s = record {
   honest = tt;
   store = λ u. s.each u ∙ ap (λ (a : Answers). option_map bare_entity (a u)) (sym same);
-  written = λ u e k. s.written u e (ap (λ (a : Answers). a u) (sym same) ∙ k);
+  represented = λ t us u e m w j k. entity_represented c.functions.table e (s.written u e (ap (λ (a : Answers). a u) (sym same) ∙ k));
 }
 
 -- the lines of the warnings before those of a run

@@ -12,7 +12,7 @@ use Rattle.cedar_gate.specs.Serving.{ServeGives}
 use Rattle.cedar_gate.specs.declared.faults.ServeFault.{ServeFault}
 use Rattle.cedar_gate.specs.declared.faults.ServeFault.TheVariants.{Memory, Read, Write}
 
-gives_more : (P Q : Status → Text → Type 0) → ((s : Status) (t : Text) → P s t → Q s t) → (old new : Option (List ℕ)) (r : Result code.Status ServeFault) → ServeGives P old new r → ServeGives Q old new r
+pub gives_more : (P Q : Status → Text → Type 0) → ((s : Status) (t : Text) → P s t → Q s t) → (old new : Option (List ℕ)) (r : Result code.Status ServeFault) → ServeGives P old new r → ServeGives Q old new r
 gives_more P Q h old new (Ok status) p = let (text, may, adds) = p in (text, h (status_of status) text may, adds)
 gives_more P Q h old new (Err Write) p = let (status, text, may, n, less, adds) = p in (status, text, h status text may, n, less, adds)
 gives_more P Q h old new (Err Memory) p = tt

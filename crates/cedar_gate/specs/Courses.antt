@@ -6,14 +6,14 @@ use Rattle.cedar_expr_model.specs.Uid.{Uid}
 use Rattle.cedar_expr_model.specs.Value.{V}
 use Rattle.cedar_store_model.specs.Knowledge.{holds_values}
 use Rattle.cedar_store_model.specs.World.{Entity}
-use Rattle.cedar_evaluator_model.specs.OfLaws.WellMade.{IsContextMadeWell}
+use Rattle.cedar_evaluator_model.specs.OfLaws.WellMade.{IsContextRepresented}
 use Rattle.cedar_evaluator_requests.specs.Views.{request_of}
 use Rattle.cedar_evaluator_requests.specs.declared.request.Request.{Request}
 use Rattle.cedar_evaluator_restricted_exprs.specs.Answers.{AgreesWith}
 use Rattle.cedar_gate_model.specs.Bundle.{Functions}
 use Rattle.cedar_gate_model.specs.RunsAnswer.{Course, MakeFairly}
-use Rattle.cedar_gate_model.specs.Session.{OpenRefusal, OpenFault}
-use Rattle.cedar_gate_runs.specs.Courses.{BindWell, IsHost}
+use Rattle.cedar_gate_model.specs.Session.{at_start, OpenRefusal, OpenFault}
+use Rattle.cedar_gate_runs.specs.Courses.{BindRepresented, IsHost}
 use Rattle.cedar_gate_runs.specs.Hosts.{Answers}
 use Rattle.cedar_gate_runs.specs.Steps.{steps_of}
 use Rattle.cedar_gate_runs.specs.declared.steps.Step.{Step}
@@ -25,22 +25,22 @@ pub record IsFair {B : _} {F : _} {g : _} (t : Extensions B F g) (x : Functions)
   pub agrees : AgreesWith t x
   pub fair : MakeFairly x
 
--- The course is one of a request and steps at the gate, by functions by which the gate's table is fair. The values of the context and of
--- the steps are as these functions make them, and the store holds values alone.
+-- The course is one of a request and steps at the gate, by functions by which the gate's table is fair. The extension values of
+-- the context and of the steps are what the calls of its table give, and the store holds values alone.
 pub record IsCourseOf {B : _} {F : _} {γ : _} (g : Gate B F γ) (q : Request) (given : List Step) (c : Course) : Type 0 where
   pub submission : IsOf g c.submission
   pub table : c.functions.table ≡ c.submission.table
   pub fair : IsFair (table_held g) c.functions
   pub start : request_of q ≡ c.start
-  pub context : IsContextMadeWell c.functions.table c.start.context
+  pub context : IsContextRepresented c.functions.table c.start.context
   pub steps : steps_of given ≡ c.steps
-  pub bound : BindWell c c.steps
+  pub bound : BindRepresented c c.steps
   pub store : (u : Uid) (e : Entity V) → c.store u ≡ Some e → holds_values e ≡ true
 
 -- The host answers for such a course.
 pub record IsRunAt {B : _} {F : _} {γ : _} {H : Type 0} (g : Gate B F γ) (q : Request) (given : List Step) (IsHonest : H → Type 0) (answers : H → Answers) (h : H) (c : Course) : Type 0 where
   pub course : IsCourseOf g q given c
-  pub host : IsHost IsHonest answers c h
+  pub host : IsHost IsHonest answers c at_start c.steps h
 
 -- nothing of the course's request keeps a session from being opened
 abbrev pub CourseOpens : Course → Type 0

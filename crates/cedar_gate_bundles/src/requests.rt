@@ -124,7 +124,7 @@ fn context_in(
         return Err(ReadFault::Unreadable);
     }
     let left = evaluated(alloc, table, &record)?;
-    match context_left(alloc, left)? {
+    match context_left(alloc, &left)? {
         Some(context) => Ok(context),
         None => Err(ReadFault::Unreadable),
     }

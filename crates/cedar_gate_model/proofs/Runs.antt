@@ -7,6 +7,8 @@ pub mod Completing
 pub mod Deciding
 pub mod Answering
 pub mod Owing
+pub mod Outside
+pub mod Ordered
 pub mod Alike
 pub mod Pruning
 pub mod Closing

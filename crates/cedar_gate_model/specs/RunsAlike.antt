@@ -9,7 +9,7 @@ use Rattle.cedar_expr_model.specs.Made.{Made}
 use Rattle.cedar_expr_model.specs.Value.{V}
 use Rattle.cedar_store_model.specs.World.{World, Entity}
 use Rattle.cedar_store_model.specs.Policy.{Policy}
-use Rattle.cedar_store_model.specs.Answer.{Answer, decision_of, reasons_of}
+use Rattle.cedar_store_model.specs.Answer.{Answer, answer_of, decision_of, reasons_of}
 use Rattle.cedar_store_model.specs.AnswerLaws.{SameMembers}
 use Rattle.cedar_schema_model.specs.BagLaws.{IsReordered}
 use Rattle.cedar_schema_model.specs.Declarations.{Declarations, bag}
@@ -68,6 +68,11 @@ abbrev pub MovedPoliciesAnswerAlike : Type 0
 MovedPoliciesAnswerAlike = (c : Course) (qs : List Policy) (es fs : List Entry) (a b : Answer) → IsPermutation c.submission.policies qs
     → MayRun c es (answered a) → MayRun (by_policies c qs) fs (answered b) → (a.decision ≡ b.decision) × SameMembers a.reasons b.reasons × SameMembers a.errors b.errors
 
+-- And what was answered by the ones is answered by the others, in the same run.
+abbrev pub MovedPoliciesRun : Type 0
+MovedPoliciesRun = (c : Course) (qs : List Policy) (es : List Entry) (a : Answer) → IsPermutation c.submission.policies qs
+    → MayRun c es (answered a) → MayRun (by_policies c qs) es (answered (answer_of (end_world c es) qs))
+
 -- Declarations in another order are accepted alike, and come to the same answer.
 abbrev pub with_declarations : Submission → Declarations → Submission
 with_declarations b d = record b { declarations = d }
@@ -92,6 +97,12 @@ abbrev pub OutsideSaysNothing : Type 0
 OutsideSaysNothing = (c : Course) (store : Uid → Option (Entity V)) (es fs : List Entry) (a b : Answer) → IsProper c
     → ((u : Uid) → InSlice (schema_in c.submission) c.submission.level (course_world c) u → store u ≡ c.store u)
     → MayRun c es (answered a) → MayRun (over_store c store) fs (answered b) → a ≡ b
+
+-- And what was answered over the one store is answered over the other: by the same run.
+abbrev pub OutsideRunsStay : Type 0
+OutsideRunsStay = (c : Course) (store : Uid → Option (Entity V)) (es : List Entry) (a : Answer) → IsProper c
+    → ((u : Uid) → InSlice (schema_in c.submission) c.submission.level (course_world c) u → store u ≡ c.store u)
+    → MayRun c es (answered a) → MayRun (over_store c store) es (answered a)
 
 -- the request is of these types
 pub record IsOfTypes (w : World) (r : RequestType) : Type 0 where

@@ -1,7 +1,7 @@
 //! Laws of runs: what they ask for, decide and answer. Each function's contract is the theorem; its body does nothing.
 
 ghost use Rattle.cedar_gate_model.specs.RunsAsk.{RunsAskOnce, RunsAskInTheSlice, RunsAskTheSlice, RunsHaveFewRounds};
-ghost use Rattle.cedar_gate_model.specs.RunsAlike.{EndsAreTheCourses, StepsMayMove, LevelsAnswerAlike, OutsideSaysNothing, PoliciesMayMove, MovedPoliciesAnswerAlike, PrunedAnswersAlike, WarnedAreNoReasons, DeclarationsMayMove, FragmentsMaySplit, MovedDeclarationsAnswerAlike};
+ghost use Rattle.cedar_gate_model.specs.RunsAlike.{EndsAreTheCourses, StepsMayMove, LevelsAnswerAlike, OutsideSaysNothing, OutsideRunsStay, PoliciesMayMove, MovedPoliciesAnswerAlike, MovedPoliciesRun, PrunedAnswersAlike, WarnedAreNoReasons, DeclarationsMayMove, FragmentsMaySplit, MovedDeclarationsAnswerAlike};
 ghost use Rattle.cedar_gate_model.specs.RunsAnswer.{AnsweredRunsAreCompleted, RunsMayBe, GivenDecisionsAreTheAnswers, AnswersAreTheWholeStores, AnswersNeedTheLoadedAlone, ErrorsAreExpected, ReadyDecisionsAreOwed, ForcedDecisionsAreGiven, EvaluatedDecisionsHold, DecidingSessionsAreOpened, SessionsAreCompleted, SessionsHaveCompletions, ProperRunsAreLegal, IsProper, MayRun, BundlesAreProper, session_of, end_world, with_unknowns, IsOpened, IsKnownStore};
 ghost use Rattle.cedar_gate_model.specs.RunLaws.{RunsAreLegal, AnsweredRunsAskTheSlice};
 ghost use Rattle.cedar_gate_model.specs.SliceSoundness.{LargerLevelsAccept};
@@ -65,6 +65,7 @@ pub fn answers_need_the_slice_alone()
     ensures loaded { AnswersNeedTheLoadedAlone }
     ensures errors { ErrorsAreExpected }
     ensures outside { OutsideSaysNothing }
+    ensures stays { OutsideRunsStay }
 {}
 
 /// An answered run ends with all that its steps bind, over the whole store. So its answer doesn't depend on the order of the steps that
@@ -81,6 +82,7 @@ pub fn steps_and_levels_are_free()
 pub fn order_is_free()
     ensures policies { PoliciesMayMove }
     ensures policies_answer { MovedPoliciesAnswerAlike }
+    ensures policies_run { MovedPoliciesRun }
     ensures declarations { DeclarationsMayMove }
     ensures declarations_answer { MovedDeclarationsAnswerAlike }
     ensures split { FragmentsMaySplit }

@@ -72,7 +72,7 @@ fn context_evaluated(
     ensures fails { IfOk result (λ c. (x : Functions) → AgreesWith table.now x → is_none c ≡ is_stopped (left_of_restricted x (tree_of e.now))) }
 {
     match evaluate(alloc, table, e) {
-        Ok(left) => context_left(alloc, left),
+        Ok(left) => context_left(alloc, &left),
         Err(RestrictedFault::Stopped) => Ok(None),
         Err(RestrictedFault::OutOfMemory) => Err(AllocError),
     }

@@ -9,8 +9,9 @@ use Rattle.cedar_gate_model.specs.Runs.{answered, DecidesInPart, Follows}
 use Rattle.cedar_gate_model.specs.Session.{State, at_start}
 use Rattle.cedar_gate_model.specs.Transcript.{Step, Entry}
 use Rattle.cedar_gate_runs.proofs.Stopped.{stopped_after, ended_after}
-use Rattle.cedar_gate_runs.specs.Courses.{BindWell, DidSteps, IsOf}
+use Rattle.cedar_gate_runs.specs.Courses.{BindRepresented, DidSteps, IsHost, IsOf, IsRunBy}
 use Rattle.cedar_gate_runs.specs.Ends.{IsAnswered}
+use Rattle.cedar_gate_runs.specs.Hosts.{Answers}
 use Rattle.cedar_gate_runs.specs.Running.{Went, DidLoadAll}
 use Rattle.cedar_gate_runs.specs.Steps.{steps_of}
 use Rattle.cedar_gate_runs.specs.Stopping.{IsRefused, HasStopped, Halts, ComesTo, Finished}
@@ -46,8 +47,8 @@ module _ {E : Type 0} (Stands : State → E → Type 0) (c : Course) (s : State)
   }
 
 module _ {E : Type 0} (Stands : Course → State → E → Type 0) (c : Course) (e : E) (steps : List code.Step) (o : IsOf Stands c e steps) where
-  pub steps_bind_well : BindWell c (steps_of steps)
-  steps_bind_well = subst (BindWell c) (sym o.steps) o.bound
+  pub steps_represented : BindRepresented c (steps_of steps)
+  steps_represented = subst (BindRepresented c) (sym o.steps) o.bound
 
   pub run_answers : (t : Transcript) (r : Response) (before : List Entry) → t.answer ≡ Some r → before ≡ [] → ComesTo (session_of c) c.submission.policies at_start (steps_of steps) before (entries_of t.entries.items) (answer_of r) → IsAnswered c t
   run_answers t r before is none h =
@@ -60,3 +61,7 @@ module _ {E : Type 0} (Stands : Course → State → E → Type 0) (c : Course) 
   run_stops before after stop none h =
       let added : after ≡ h.entries = h.added ∙ ap (λ zs. zs ++ h.entries) none in
       subst (λ zs. HasStopped (session_of c) c.submission.policies at_start zs after stop) o.steps (subst (λ zs. HasStopped (session_of c) c.submission.policies at_start (steps_of steps) zs stop) (sym added) h.stopped)
+
+-- the host of a run answers for the steps that were given
+pub host_given : {E H : Type 0} (Stands : Course → State → E → Type 0) (IsHonest : H → Type 0) (answers : H → Answers) (c : Course) (e : E) (steps : List code.Step) (h : H) → IsRunBy Stands e steps IsHonest answers h c → IsHost IsHonest answers c at_start (steps_of steps) h
+host_given Stands IsHonest answers c e steps h by = subst (λ zs. IsHost IsHonest answers c at_start zs h) (sym by.session.steps) by.host

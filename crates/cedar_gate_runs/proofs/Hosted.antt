@@ -1,5 +1,5 @@
 -- What an honest host answers is what the store of the setup answers.
-use Rattle.std.proofs.Common.{◌≡◌, ◌↔◌, List, [], ◌∷◌, map, Option, Some, None, refl, sym, ap, ◌∙◌, subst}
+use Rattle.std.proofs.Common.{◌≡◌, ◌↔◌, List, [], ◌∷◌, ◌++◌, map, Option, Some, None, refl, sym, ap, ◌∙◌, subst}
 use Rattle.std.specs.Prelude.{Contains, IfSome, option_map}
 use Rattle.cedar_expr_names.specs.Views.{uid_of}
 use Rattle.cedar_expr_names.specs.declared.entity.EntityUID.{EntityUID}
@@ -10,23 +10,79 @@ use Rattle.cedar_expr_model.proofs.Lists.{map_has, map_from}
 use Rattle.cedar_store_entities.specs.Views.{bare_entity, entity_seen, entity_uid}
 use Rattle.cedar_store_entities.specs.declared.entity.Entity.{Entity}
 use Rattle.cedar_store_model.specs.World as world
-use Rattle.cedar_store_model.specs.World.{held}
-use Rattle.cedar_evaluator_model.specs.OfLaws.WellMade.{IsFoundMadeWell}
+use Rattle.cedar_evaluator_model.specs.OfLaws.WellMade.{IsEntityRepresented}
 use Rattle.cedar_gate_runs.specs.Hosts.{Answers, answered_of, answer_from}
-use Rattle.cedar_gate_model.specs.Runs.{supplied_by}
+use Rattle.cedar_gate_model.proofs.Doing.{nothing}
+use Rattle.cedar_gate_model.specs.Did.{Loaded}
+use Rattle.cedar_gate_model.specs.Runs.{DecidesInPart, supplied_by, with_asked}
 use Rattle.cedar_gate_model.specs.RunsAnswer.{Course, session_of}
-use Rattle.cedar_gate_model.specs.Session.{Setup}
-use Rattle.cedar_gate_runs.specs.Courses.{IsHost}
+use Rattle.cedar_gate_model.specs.Session.{Setup, State, IsWantedList}
+use Rattle.cedar_gate_model.specs.Transcript.{Step, Entry, round, bound, decided}
+use Rattle.cedar_gate_runs.specs.Courses.{DidSteps, HostStays, IsHost, IsMoment}
 use Rattle.cedar_gate_runs.specs.Supplies.{supplied_pair, supplied_of, supplied_uids, AreAnswers}
 
 -- a host whose store and honesty stay
-pub host_stays : {H : Type 0} (IsHonest : H → Type 0) (answers : H → Answers) (g h : H) → answers h ≡ answers g → IsHonest h ↔ IsHonest g → (c : Course) → IsHost IsHonest answers c g → IsHost IsHonest answers c h
-host_stays IsHonest answers g h same both c i =
+pub host_stays : {H : Type 0} (IsHonest : H → Type 0) (answers : H → Answers) (g h : H) → answers h ≡ answers g → IsHonest h ↔ IsHonest g → HostStays IsHonest answers g h
+host_stays IsHonest answers g h same both c s steps i =
     record {
       honest = both.1 i.honest;
       store = λ u. i.store u ∙ ap (λ (a : Answers). option_map bare_entity (a u)) (sym same);
-      written = λ u e k. i.written u e (ap (λ (a : Answers). a u) (sym same) ∙ k);
+      represented = λ t us u e m w j k. i.represented t us u e m w j (ap (λ (a : Answers). a u) (sym same) ∙ k);
     }
+
+-- rounds after rounds
+rounds_on : (x : Setup) (s t u : State) (es fs : List Entry) → Loaded x s es t → Loaded x t fs u → Loaded x s (es ++ fs) u
+rounds_on x s t u [] fs h k = subst (λ r. Loaded x r fs u) h k
+rounds_on x s t u (round uids ∷ es) fs h k = (h.0, rounds_on x (with_asked s uids) t u es fs h.1 k)
+rounds_on x s t u (bound n ∷ es) fs h k = absurd h
+rounds_on x s t u (decided d ∷ es) fs h k = absurd h
+
+-- no steps lead nowhere
+none_done : (c : Course) (s t : State) (done rest : List Step) (es : List Entry) → done ++ rest ≡ [] → DidSteps c s done es t → t ≡ s
+none_done c s t [] rest es split did = did.1
+none_done c s t (step ∷ done) rest es split did = cc
+
+-- the moment that a run begins with
+now : (c : Course) (s : State) → IsMoment c s [] s
+now c s = record { done = []; rest = []; split = refl; entries = []; rounds = []; state = s; did = nothing (DecidesInPart (session_of c) c.submission.policies) (session_of c) s; loaded = refl }
+
+module _ {H : Type 0} (IsHonest : H → Type 0) (answers : H → Answers) (c : Course) (s t : State) (h : H) where
+  -- a host that answers for steps does so for the rounds after some of them
+  pub host_after : (steps done rest : List Step) (es : List Entry) → done ++ rest ≡ steps → DidSteps c s done es t → IsHost IsHonest answers c s steps h → IsHost IsHonest answers c t [] h
+  host_after steps done rest es split did i = record {
+    honest = i.honest;
+    store = i.store;
+    represented = λ u us v e m.
+        i.represented u us v e (record {
+          done = done;
+          rest = rest;
+          split = split;
+          entries = es;
+          rounds = m.rounds;
+          state = t;
+          did = did;
+          loaded = subst (λ r. Loaded (session_of c) r m.rounds u) (none_done c t m.state m.done m.rest m.entries m.split m.did) m.loaded;
+        });
+  }
+
+  -- and after rounds for those that follow
+  pub host_loaded : (es : List Entry) → Loaded (session_of c) s es t → IsHost IsHonest answers c s [] h → IsHost IsHonest answers c t [] h
+  host_loaded es loaded i = record {
+    honest = i.honest;
+    store = i.store;
+    represented = λ u us v e m.
+        let rest : Loaded (session_of c) t m.rounds u = subst (λ r. Loaded (session_of c) r m.rounds u) (none_done c t m.state m.done m.rest m.entries m.split m.did) m.loaded in
+        i.represented u us v e (record {
+          done = [];
+          rest = [];
+          split = refl;
+          entries = [];
+          rounds = es ++ m.rounds;
+          state = s;
+          did = nothing (DecidesInPart (session_of c) c.submission.policies) (session_of c) s;
+          loaded = rounds_on (session_of c) s t u es m.rounds loaded rest;
+        });
+  }
 
 abbrev Told : Type 0
 Told = Uid × Option (Uid × world.Entity Made)
@@ -64,24 +120,24 @@ held_by : (u : Uid) (o : Option (world.Entity Made)) (p : Uid × world.Entity Ma
 held_by u None p h = cc
 held_by u (Some e) p h = let q : (u, e) ≡ p = cc in ap (λ (z : Uid × world.Entity Made). Some z.1) q
 
-module _ {H : Type 0} (IsHonest : H → Type 0) (answers : H → Answers) (c : Course) (h : H) (i : IsHost IsHonest answers c h) (ps : List (EntityUID × Option Entity)) (us : List Uid) (e : map answered_of ps ≡ map (answer_from (answers h)) us) where
+module _ {H : Type 0} (IsHonest : H → Type 0) (answers : H → Answers) (c : Course) (s : State) (h : H) (i : IsHost IsHonest answers c s [] h) (ps : List (EntityUID × Option Entity)) (us : List Uid) (e : map answered_of ps ≡ map (answer_from (answers h)) us) where
   pub supplied_is : supplied_of ps ≡ supplied_by (session_of c) us
   supplied_is = all_told ps ∙ ap (map without_calls) e ∙ answers_bare (session_of c) (answers h) i.store us
 
   uids_are : supplied_uids ps ≡ us
   uids_are = all_uids ps ∙ ap (map (λ (a : Told). a.0)) e ∙ uids_of_answers (answers h) us
 
-  -- a value that is answered is as it is written
-  well : (u : EntityUID) (o : Option Entity) → Contains ps (u, o) → IfSome o (λ e. IsFoundMadeWell c.functions.table (held (entity_seen e)))
-  well u None k = tt
-  well u (Some f) k =
+  -- what is answered to what is wanted is represented
+  represented : IsWantedList (session_of c) s us → (u : EntityUID) (o : Option Entity) → Contains ps (u, o) → IfSome o (λ e. IsEntityRepresented c.functions.table (entity_seen e))
+  represented w u None k = tt
+  represented w u (Some f) k =
       let a = subst (λ zs. Contains zs (answered_of (u, Some f))) e (map_has answered_of ps (u, Some f) k) in
       let b = map_from (answer_from (answers h)) us (answered_of (u, Some f)) a in
       let q : option_map (λ (e : world.Entity Made). (b.0, e)) (answers h b.0) ≡ Some (entity_uid f, entity_seen f) = ap (λ (z : Told). z.1) b.2 in
-      i.written b.0 (entity_seen f) (held_by b.0 (answers h b.0) (entity_uid f, entity_seen f) q)
+      i.represented s us b.0 (entity_seen f) (now c s) w b.1 (held_by b.0 (answers h b.0) (entity_uid f, entity_seen f) q)
 
-  pub are_answers : AreAnswers (session_of c) ps
-  are_answers = record {
+  pub are_answers : IsWantedList (session_of c) s us → AreAnswers (session_of c) ps
+  are_answers w = record {
     answered = supplied_is ∙ ap (supplied_by (session_of c)) (sym uids_are);
-    written = λ p k. well p.0 p.1 k;
+    represented = λ p k. represented w p.0 p.1 k;
   }

@@ -6,7 +6,7 @@ use Rattle.cedar_expr_model.specs.Name.{Text}
 use Rattle.cedar_expr_model.specs.Uid.{Uid}
 use Rattle.cedar_expr_model.specs.Made.{Made}
 use Rattle.cedar_expr_model.proofs.Lists.{contains_head, contains_tail, contains_cases, contains_none}
-use Rattle.cedar_evaluator_model.specs.OfLaws.WellMade.{IsWellMade}
+use Rattle.cedar_expr_model.specs.OfLaws.Represented.{IsRepresented}
 use Rattle.cedar_gate_model.specs.Runs.{DecidesInPart, supplied_by, with_asked}
 use Rattle.cedar_gate_model.specs.RunLaws.{bindings_in}
 use Rattle.cedar_gate_model.specs.RunsAnswer.{Course, session_of}
@@ -17,7 +17,7 @@ use Rattle.cedar_gate_model.proofs.Doing.{nothing, loaded_more}
 use Rattle.cedar_gate_runs.proofs.Rounds.{AreSettled, settled_first, settled_more, below}
 use Rattle.cedar_gate_runs.proofs.Stepped.{loading_stops}
 use Rattle.cedar_gate_runs.proofs.Stopped.{stopped_on, stopped_after}
-use Rattle.cedar_gate_runs.specs.Courses.{BindWell, DidSteps}
+use Rattle.cedar_gate_runs.specs.Courses.{BindRepresented, DidSteps}
 use Rattle.cedar_gate_runs.specs.Running.{Went, DidLoad, DidLoadAll, StopsLoad, HaltsLoading}
 use Rattle.cedar_gate_runs.specs.Stopping.{IsRefused, Halts}
 use Rattle.cedar_gate_runs.specs.declared.stops_with.Stop.{Stop}
@@ -37,8 +37,8 @@ binding_within : (before : List Step) (s : Step) (after : List Step) (b : Text �
 binding_within [] s after b k = binding_first s after b k
 binding_within (t ∷ before) s after b k = bindings_more t (before ++ s ∷ after) b (binding_within before s after b k)
 
-pub one_binds_well : (c : Course) (before : List Step) (s : Step) (after : List Step) → BindWell c (before ++ s ∷ after) → BindWell c (s ∷ [])
-one_binds_well c before s after h = λ b k. h b (binding_within before s after b k)
+pub one_represented : (c : Course) (before : List Step) (s : Step) (after : List Step) → BindRepresented c (before ++ s ∷ after) → BindRepresented c (s ∷ [])
+one_represented c before s after h = λ b k. h b (binding_within before s after b k)
 
 module _ {E : Type 0} (Stands : State → E → Type 0) where
   pub went_none : (c : Course) (s : State) (es : List Entry) (e : E) → Stands s e → Went Stands (DidSteps c s []) es es e
@@ -130,5 +130,5 @@ not_none xs n b e h f k =
     let t : b ≡ true = h ∙ ap (λ m. m == 0) q in
     cc
 
-pub bound_well : (c : Course) (n : Text) (m : Made) → BindWell c (bind_name n m ∷ []) → IsWellMade c.functions.table m
-bound_well c n m h = h (n, m) (contains_head (n, m) [])
+pub bound_represented : (c : Course) (n : Text) (m : Made) → BindRepresented c (bind_name n m ∷ []) → IsRepresented c.functions.table m
+bound_represented c n m h = h (n, m) (contains_head (n, m) [])

@@ -9,7 +9,7 @@ ghost use Rattle.cedar_gate_model.specs.Session.{State, IsWantedList, SupplyRefu
 ghost use Rattle.cedar_gate_runs.specs.Transcripts.{entries_of};
 ghost use Rattle.cedar_gate_runs.specs.Asking.{rounds_of, AskedRounds, AskedBeyond};
 ghost use Rattle.cedar_gate_runs.specs.Counting.{count_after};
-ghost use Rattle.cedar_gate_runs.specs.Courses.{IsHost};
+ghost use Rattle.cedar_gate_runs.specs.Courses.{IsHost, HostStays};
 ghost use Rattle.cedar_gate_runs.specs.Lost.{AskedLast, StopsLoading};
 ghost use Rattle.cedar_gate_runs.specs.Running.{Went, DidLoad, DidLoadAll, StopsSupply, StopsLoad, HaltsLoading};
 
@@ -27,15 +27,15 @@ fn take_in<E: SessionCalls, H: Host>(
     wanted: &[EntityUID],
 ) -> Result<(), Stop>
     requires { H.faults host.old < u64.MAX }
-    ensures host { (c : Course) → IsHost H.honest H.store c host.old → IsHost H.honest H.store c host.new }
+    ensures host { HostStays H.honest H.store host.old host.new }
     ensures faults { OnOk result (H.faults host.new ≡ H.faults host.old) }
     ensures counted { IfErr result (λ stop. H.faults host.new ≡ count_after stop (H.faults host.old)) }
     ensures asked { OnOk result (H.asked host.new ≡ H.asked host.old ++ map uid_of wanted.now ∷ []) }
     ensures beyond { IfErr result (AskedBeyond (H.asked host.old) (H.asked host.new)) }
     ensures last { OnErr result ((H.asked host.new ≡ H.asked host.old) ⊎ (H.asked host.new ≡ H.asked host.old ++ map uid_of wanted.now ∷ [])) }
-    ensures at { OnOk result ((c : Course) (s : State) → E.stands c s session.old → IsHost H.honest H.store c host.old → map uid_of wanted.now ≡ E.wants session.old → E.stands c (with_asked s (map uid_of wanted.now)) session.new) }
-    ensures taken { OnOk result ((c : Course) (s : State) → E.stands c s session.old → IsHost H.honest H.store c host.old → (f : SupplyRefusal) → SupplyFault (session_of c) s (supplied_by (session_of c) (map uid_of wanted.now)) f → ⊥) }
-    ensures refused { IfErr result (λ stop. (c : Course) (s : State) → E.stands c s session.old → IsHost H.honest H.store c host.old → StopsSupply (session_of c) s (supplied_by (session_of c) (map uid_of wanted.now)) stop) }
+    ensures at { OnOk result ((c : Course) (s : State) → E.stands c s session.old → IsHost H.honest H.store c s [] host.old → IsWantedList (session_of c) s (map uid_of wanted.now) → map uid_of wanted.now ≡ E.wants session.old → E.stands c (with_asked s (map uid_of wanted.now)) session.new) }
+    ensures taken { OnOk result ((c : Course) (s : State) → E.stands c s session.old → IsHost H.honest H.store c s [] host.old → (f : SupplyRefusal) → SupplyFault (session_of c) s (supplied_by (session_of c) (map uid_of wanted.now)) f → ⊥) }
+    ensures refused { IfErr result (λ stop. (c : Course) (s : State) → E.stands c s session.old → IsHost H.honest H.store c s [] host.old → StopsSupply (session_of c) s (supplied_by (session_of c) (map uid_of wanted.now)) stop) }
 {
     let supplied = host.fetch(alloc, wanted)?;
     match session.supply(alloc, supplied) {
@@ -60,14 +60,14 @@ pub(crate) fn load<E: SessionCalls, H: Host>(
     entries: &mut Vec<Entry>,
 ) -> Result<bool, Stop>
     requires { H.faults host.old < u64.MAX }
-    ensures host { (c : Course) → IsHost H.honest H.store c host.old → IsHost H.honest H.store c host.new }
+    ensures host { HostStays H.honest H.store host.old host.new }
     ensures faults { OnOk result (H.faults host.new ≡ H.faults host.old) }
     ensures counted { IfErr result (λ stop. H.faults host.new ≡ count_after stop (H.faults host.old)) }
     ensures asked { OnOk result ((first : List (List Uid)) → AskedRounds first (H.asked host.old) (entries_of entries.old.items) → AskedRounds first (H.asked host.new) (entries_of entries.new.items)) }
     ensures beyond { IfErr result (AskedBeyond (H.asked host.old) (H.asked host.new)) }
     ensures last { OnErr result ((c : Course) (s : State) → E.stands c s session.old → AskedLast (session_of c) s (H.asked host.old) (H.asked host.new)) }
-    ensures did { IfOk result (λ b. (c : Course) (s : State) → E.stands c s session.old → IsHost H.honest H.store c host.old → Went (E.stands c) (DidLoad (session_of c) s b) (entries_of entries.old.items) (entries_of entries.new.items) session.new) }
-    ensures stopped { IfErr result (λ stop. (c : Course) (s : State) → E.stands c s session.old → IsHost H.honest H.store c host.old → StopsLoad (session_of c) s stop) }
+    ensures did { IfOk result (λ b. (c : Course) (s : State) → E.stands c s session.old → IsHost H.honest H.store c s [] host.old → Went (E.stands c) (DidLoad (session_of c) s b) (entries_of entries.old.items) (entries_of entries.new.items) session.new) }
+    ensures stopped { IfErr result (λ stop. (c : Course) (s : State) → E.stands c s session.old → IsHost H.honest H.store c s [] host.old → StopsLoad (session_of c) s stop) }
     ensures unchanged { OnErr result (entries_of entries.new.items ≡ entries_of entries.old.items) }
 {
     let wanted = copy_wanted(alloc, session)?;
@@ -88,14 +88,14 @@ pub(crate) fn load_all<E: SessionCalls, H: Host>(
     entries: &mut Vec<Entry>,
 ) -> Result<(), Stop>
     requires { H.faults host.old < u64.MAX }
-    ensures host { (c : Course) → IsHost H.honest H.store c host.old → IsHost H.honest H.store c host.new }
+    ensures host { HostStays H.honest H.store host.old host.new }
     ensures faults { OnOk result (H.faults host.new ≡ H.faults host.old) }
     ensures counted { IfErr result (λ stop. H.faults host.new ≡ count_after stop (H.faults host.old)) }
     ensures asked { OnOk result ((first : List (List Uid)) → AskedRounds first (H.asked host.old) (entries_of entries.old.items) → AskedRounds first (H.asked host.new) (entries_of entries.new.items)) }
     ensures beyond { IfErr result (λ stop. (first : List (List Uid)) → AskedRounds first (H.asked host.old) (entries_of entries.old.items) → AskedBeyond (first ++ rounds_of (entries_of entries.new.items)) (H.asked host.new) stop) }
-    ensures last { OnErr result ((c : Course) (s : State) (first : List (List Uid)) → E.stands c s session.old → IsHost H.honest H.store c host.old → AskedRounds first (H.asked host.old) (entries_of entries.old.items) → StopsLoading (session_of c) s (entries_of entries.old.items) (entries_of entries.new.items) first (H.asked host.new)) }
-    ensures did { OnOk result ((c : Course) (s : State) → E.stands c s session.old → IsHost H.honest H.store c host.old → Went (E.stands c) (DidLoadAll (session_of c) s) (entries_of entries.old.items) (entries_of entries.new.items) session.new) }
-    ensures stopped { IfErr result (λ stop. (c : Course) (s : State) → E.stands c s session.old → IsHost H.honest H.store c host.old → HaltsLoading (session_of c) s (entries_of entries.old.items) (entries_of entries.new.items) stop) }
+    ensures last { OnErr result ((c : Course) (s : State) (first : List (List Uid)) → E.stands c s session.old → IsHost H.honest H.store c s [] host.old → AskedRounds first (H.asked host.old) (entries_of entries.old.items) → StopsLoading (session_of c) s (entries_of entries.old.items) (entries_of entries.new.items) first (H.asked host.new)) }
+    ensures did { OnOk result ((c : Course) (s : State) → E.stands c s session.old → IsHost H.honest H.store c s [] host.old → Went (E.stands c) (DidLoadAll (session_of c) s) (entries_of entries.old.items) (entries_of entries.new.items) session.new) }
+    ensures stopped { IfErr result (λ stop. (c : Course) (s : State) → E.stands c s session.old → IsHost H.honest H.store c s [] host.old → HaltsLoading (session_of c) s (entries_of entries.old.items) (entries_of entries.new.items) stop) }
 {
     for _round in 0..u64::from(session.level()) + 1 {
         if !load(alloc, session, host, entries)? {

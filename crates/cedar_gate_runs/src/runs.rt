@@ -8,7 +8,7 @@ ghost use Rattle.cedar_gate_model.specs.Session.{State, at_start, NothingIsWante
 ghost use Rattle.cedar_gate_runs.specs.Transcripts.{entries_of};
 ghost use Rattle.cedar_gate_runs.specs.Asking.{rounds_of, AskedRounds, IsBeyond, AskedBeyond, AskedBy, entries_done};
 ghost use Rattle.cedar_gate_runs.specs.Counting.{count_after, KeepsCount, run_count, HostSaw};
-ghost use Rattle.cedar_gate_runs.specs.Courses.{IsHost, BindWell, IsRunBy};
+ghost use Rattle.cedar_gate_runs.specs.Courses.{IsHost, BindRepresented, IsRunBy};
 ghost use Rattle.cedar_gate_runs.specs.Ends.{IsStopped, IsRunOf};
 ghost use Rattle.cedar_gate_runs.specs.Lost.{StopsAt, AsksWell};
 ghost use Rattle.cedar_gate_runs.specs.Promised.{KeepsRun};
@@ -49,13 +49,13 @@ fn follow<E: SessionCalls, H: Host>(
     entries: &mut Vec<Entry>,
 ) -> Result<Response, Stop>
     requires { H.faults host.old < u64.MAX }
-    ensures answered { IfOk result (λ r. (c : Course) (s : State) → E.stands c s session.old → IsHost H.honest H.store c host.old → BindWell c (steps_of steps.items) → ComesTo (session_of c) c.submission.policies s (steps_of steps.items) (entries_of entries.old.items) (entries_of entries.new.items) (answer_of r)) }
-    ensures stopped { IfErr result (λ stop. (c : Course) (s : State) → E.stands c s session.old → IsHost H.honest H.store c host.old → BindWell c (steps_of steps.items) → Halts (session_of c) c.submission.policies s (steps_of steps.items) (entries_of entries.old.items) (entries_of entries.new.items) stop) }
+    ensures answered { IfOk result (λ r. (c : Course) (s : State) → E.stands c s session.old → IsHost H.honest H.store c s (steps_of steps.items) host.old → BindRepresented c (steps_of steps.items) → ComesTo (session_of c) c.submission.policies s (steps_of steps.items) (entries_of entries.old.items) (entries_of entries.new.items) (answer_of r)) }
+    ensures stopped { IfErr result (λ stop. (c : Course) (s : State) → E.stands c s session.old → IsHost H.honest H.store c s (steps_of steps.items) host.old → BindRepresented c (steps_of steps.items) → Halts (session_of c) c.submission.policies s (steps_of steps.items) (entries_of entries.old.items) (entries_of entries.new.items) stop) }
     ensures asked { OnOk result ((first : List (List Uid)) → AskedRounds first (H.asked host.old) (entries_of entries.old.items) → AskedRounds first (H.asked host.new) (entries_of entries.new.items)) }
     ensures beyond { IfErr result (λ stop. (first : List (List Uid)) → AskedRounds first (H.asked host.old) (entries_of entries.old.items) → AskedBeyond (first ++ rounds_of (entries_of entries.new.items)) (H.asked host.new) stop) }
     ensures faults { OnOk result (H.faults host.new ≡ H.faults host.old) }
     ensures counted { IfErr result (λ stop. H.faults host.new ≡ count_after stop (H.faults host.old)) }
-    ensures last { OnErr result ((c : Course) (s : State) (first : List (List Uid)) → E.stands c s session.old → IsHost H.honest H.store c host.old → BindWell c (steps_of steps.items) → AskedRounds first (H.asked host.old) (entries_of entries.old.items) → StopsAt c s (steps_of steps.items) (entries_of entries.old.items) (entries_of entries.new.items) first (H.asked host.new)) }
+    ensures last { OnErr result ((c : Course) (s : State) (first : List (List Uid)) → E.stands c s session.old → IsHost H.honest H.store c s (steps_of steps.items) host.old → BindRepresented c (steps_of steps.items) → AskedRounds first (H.asked host.old) (entries_of entries.old.items) → StopsAt c s (steps_of steps.items) (entries_of entries.old.items) (entries_of entries.new.items) first (H.asked host.new)) }
 {
     take_steps(alloc, session, steps, host, entries)?;
     load_all(alloc, session, host, entries)?;

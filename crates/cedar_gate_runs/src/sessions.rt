@@ -8,7 +8,7 @@ ghost use Rattle.cedar_expr_values.specs.Extensions.{extension_of};
 ghost use Rattle.cedar_expr_values.specs.Values.{made};
 ghost use Rattle.cedar_store_model.specs.Answer.{answer_of as answer_meant};
 ghost use Rattle.cedar_evaluator_model.specs.Laws.{as_concrete};
-ghost use Rattle.cedar_evaluator_model.specs.OfLaws.WellMade.{IsWellMade};
+ghost use Rattle.cedar_expr_model.specs.OfLaws.Represented.{IsRepresented};
 ghost use Rattle.cedar_evaluator_requests.specs.Views.{decision_of, answer_of};
 ghost use Rattle.cedar_gate_model.specs.Runs.{DecidesInPart, with_asked};
 ghost use Rattle.cedar_gate_model.specs.RunsAnswer.{Course, session_of};
@@ -68,7 +68,7 @@ pub trait SessionCalls {
     ///
     /// The refusal, by its number; or out of memory.
     fn bind(&mut self, alloc: Global, name: RcStr, value: Value<ExtValue>) -> Result<(), Refusal>
-        ensures at { OnOk result ((c : Course) (s : State) → stands c s self.old → IsWellMade c.functions.table (made extension_of value) → stands c (with_bound s (rc_str_bytes name) (made extension_of value)) self.new) }
+        ensures at { OnOk result ((c : Course) (s : State) → stands c s self.old → IsRepresented c.functions.table (made extension_of value) → stands c (with_bound s (rc_str_bytes name) (made extension_of value)) self.new) }
         ensures taken { OnOk result ((c : Course) (s : State) → stands c s self.old → (f : BindRefusal) → BindFault (session_of c) s (rc_str_bytes name) (made extension_of value) f → ⊥) }
         ensures refused { IfErr result (λ r. (c : Course) (s : State) → stands c s self.old → IsBindRefusal (session_of c) s (rc_str_bytes name) (made extension_of value) r) };
 

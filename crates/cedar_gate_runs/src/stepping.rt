@@ -4,7 +4,7 @@ ghost use Rattle.std.specs.Prelude.{◌≡◌, ◌<◌, ◌++◌, [], ◌∷◌,
 ghost use Rattle.std.specs.Rc.{rc_str_bytes};
 ghost use Rattle.cedar_expr_values.specs.Extensions.{extension_of};
 ghost use Rattle.cedar_expr_values.specs.Values.{made};
-ghost use Rattle.cedar_evaluator_model.specs.OfLaws.WellMade.{IsWellMade};
+ghost use Rattle.cedar_expr_model.specs.OfLaws.Represented.{IsRepresented};
 ghost use Rattle.cedar_expr_model.specs.Uid.{Uid};
 ghost use Rattle.cedar_gate_model.specs.RunsAnswer.{Course, session_of};
 ghost use Rattle.cedar_gate_model.specs.Session.{State, with_bound, BindRefusal, BindFault};
@@ -12,7 +12,7 @@ ghost use Rattle.cedar_gate_model.specs.Transcript as model;
 ghost use Rattle.cedar_gate_runs.specs.Transcripts.{entries_of};
 ghost use Rattle.cedar_gate_runs.specs.Asking.{rounds_of, AskedRounds, IsBeyond, AskedBeyond};
 ghost use Rattle.cedar_gate_runs.specs.Counting.{count_after, KeepsCount};
-ghost use Rattle.cedar_gate_runs.specs.Courses.{IsHost, BindWell, DidSteps};
+ghost use Rattle.cedar_gate_runs.specs.Courses.{IsHost, HostStays, BindRepresented, DidSteps};
 ghost use Rattle.cedar_gate_runs.specs.Lost.{AskedLast, StopsAt};
 ghost use Rattle.cedar_gate_runs.specs.Running.{Went};
 ghost use Rattle.cedar_gate_runs.specs.Steps.{step_of, steps_of};
@@ -35,7 +35,7 @@ fn bind_in<E: SessionCalls>(
     name: RcStr,
     value: Value<ExtValue>,
 ) -> Result<(), Stop>
-    ensures at { OnOk result ((c : Course) (s : State) → E.stands c s session.old → IsWellMade c.functions.table (made extension_of value) → E.stands c (with_bound s (rc_str_bytes name) (made extension_of value)) session.new) }
+    ensures at { OnOk result ((c : Course) (s : State) → E.stands c s session.old → IsRepresented c.functions.table (made extension_of value) → E.stands c (with_bound s (rc_str_bytes name) (made extension_of value)) session.new) }
     ensures taken { OnOk result ((c : Course) (s : State) → E.stands c s session.old → (f : BindRefusal) → BindFault (session_of c) s (rc_str_bytes name) (made extension_of value) f → ⊥) }
     ensures stopped { IfErr result (λ stop. (c : Course) (s : State) (rest : List model.Step) → E.stands c s session.old → IsRefused (session_of c) c.submission.policies s (model.bind_name (rc_str_bytes name) (made extension_of value) ∷ rest) [] stop) }
     ensures alone { IfErr result (λ stop. IsBeyond stop []) }
@@ -55,7 +55,7 @@ fn bind_name<E: SessionCalls>(
     value: Value<ExtValue>,
     entries: &mut Vec<Entry>,
 ) -> Result<(), Stop>
-    ensures did { OnOk result ((c : Course) (s : State) → E.stands c s session.old → IsWellMade c.functions.table (made extension_of value) → Went (E.stands c) (DidSteps c s (model.bind_name (rc_str_bytes name) (made extension_of value) ∷ [])) (entries_of entries.old.items) (entries_of entries.new.items) session.new) }
+    ensures did { OnOk result ((c : Course) (s : State) → E.stands c s session.old → IsRepresented c.functions.table (made extension_of value) → Went (E.stands c) (DidSteps c s (model.bind_name (rc_str_bytes name) (made extension_of value) ∷ [])) (entries_of entries.old.items) (entries_of entries.new.items) session.new) }
     ensures stopped { IfErr result (λ stop. (c : Course) (s : State) (rest : List model.Step) → E.stands c s session.old → IsRefused (session_of c) c.submission.policies s (model.bind_name (rc_str_bytes name) (made extension_of value) ∷ rest) [] stop) }
     ensures unchanged { OnErr result (entries_of entries.new.items ≡ entries_of entries.old.items) }
     ensures rounds { OnOk result (rounds_of (entries_of entries.new.items) ≡ rounds_of (entries_of entries.old.items)) }
@@ -91,14 +91,14 @@ fn take_step<E: SessionCalls, H: Host>(
     entries: &mut Vec<Entry>,
 ) -> Result<(), Stop>
     requires { H.faults host.old < u64.MAX }
-    ensures host { (c : Course) → IsHost H.honest H.store c host.old → IsHost H.honest H.store c host.new }
+    ensures host { HostStays H.honest H.store host.old host.new }
     ensures faults { OnOk result (H.faults host.new ≡ H.faults host.old) }
     ensures counted { IfErr result (λ stop. H.faults host.new ≡ count_after stop (H.faults host.old)) }
     ensures asked { OnOk result ((first : List (List Uid)) → AskedRounds first (H.asked host.old) (entries_of entries.old.items) → AskedRounds first (H.asked host.new) (entries_of entries.new.items)) }
     ensures beyond { IfErr result (AskedBeyond (H.asked host.old) (H.asked host.new)) }
     ensures last { OnErr result ((c : Course) (s : State) → E.stands c s session.old → AskedLast (session_of c) s (H.asked host.old) (H.asked host.new)) }
-    ensures did { OnOk result ((c : Course) (s : State) → E.stands c s session.old → IsHost H.honest H.store c host.old → BindWell c (step_of step ∷ []) → Went (E.stands c) (DidSteps c s (step_of step ∷ [])) (entries_of entries.old.items) (entries_of entries.new.items) session.new) }
-    ensures stopped { IfErr result (λ stop. (c : Course) (s : State) (rest : List model.Step) → E.stands c s session.old → IsHost H.honest H.store c host.old → IsRefused (session_of c) c.submission.policies s (step_of step ∷ rest) [] stop) }
+    ensures did { OnOk result ((c : Course) (s : State) → E.stands c s session.old → IsHost H.honest H.store c s [] host.old → BindRepresented c (step_of step ∷ []) → Went (E.stands c) (DidSteps c s (step_of step ∷ [])) (entries_of entries.old.items) (entries_of entries.new.items) session.new) }
+    ensures stopped { IfErr result (λ stop. (c : Course) (s : State) (rest : List model.Step) → E.stands c s session.old → IsHost H.honest H.store c s [] host.old → IsRefused (session_of c) c.submission.policies s (step_of step ∷ rest) [] stop) }
     ensures unchanged { OnErr result (entries_of entries.new.items ≡ entries_of entries.old.items) }
 {
     match step {
@@ -120,14 +120,14 @@ pub(crate) fn take_steps<E: SessionCalls, H: Host>(
     entries: &mut Vec<Entry>,
 ) -> Result<(), Stop>
     requires { H.faults host.old < u64.MAX }
-    ensures host { (c : Course) → IsHost H.honest H.store c host.old → IsHost H.honest H.store c host.new }
+    ensures host { HostStays H.honest H.store host.old host.new }
     ensures faults { OnOk result (H.faults host.new ≡ H.faults host.old) }
     ensures counted { IfErr result (λ stop. H.faults host.new ≡ count_after stop (H.faults host.old)) }
     ensures asked { OnOk result ((first : List (List Uid)) → AskedRounds first (H.asked host.old) (entries_of entries.old.items) → AskedRounds first (H.asked host.new) (entries_of entries.new.items)) }
     ensures beyond { IfErr result (λ stop. (first : List (List Uid)) → AskedRounds first (H.asked host.old) (entries_of entries.old.items) → AskedBeyond (first ++ rounds_of (entries_of entries.new.items)) (H.asked host.new) stop) }
-    ensures last { OnErr result ((c : Course) (s : State) (first : List (List Uid)) → E.stands c s session.old → IsHost H.honest H.store c host.old → BindWell c (steps_of steps.items) → AskedRounds first (H.asked host.old) (entries_of entries.old.items) → StopsAt c s (steps_of steps.items) (entries_of entries.old.items) (entries_of entries.new.items) first (H.asked host.new)) }
-    ensures did { OnOk result ((c : Course) (s : State) → E.stands c s session.old → IsHost H.honest H.store c host.old → BindWell c (steps_of steps.items) → Went (E.stands c) (DidSteps c s (steps_of steps.items)) (entries_of entries.old.items) (entries_of entries.new.items) session.new) }
-    ensures stopped { IfErr result (λ stop. (c : Course) (s : State) → E.stands c s session.old → IsHost H.honest H.store c host.old → BindWell c (steps_of steps.items) → Halts (session_of c) c.submission.policies s (steps_of steps.items) (entries_of entries.old.items) (entries_of entries.new.items) stop) }
+    ensures last { OnErr result ((c : Course) (s : State) (first : List (List Uid)) → E.stands c s session.old → IsHost H.honest H.store c s (steps_of steps.items) host.old → BindRepresented c (steps_of steps.items) → AskedRounds first (H.asked host.old) (entries_of entries.old.items) → StopsAt c s (steps_of steps.items) (entries_of entries.old.items) (entries_of entries.new.items) first (H.asked host.new)) }
+    ensures did { OnOk result ((c : Course) (s : State) → E.stands c s session.old → IsHost H.honest H.store c s (steps_of steps.items) host.old → BindRepresented c (steps_of steps.items) → Went (E.stands c) (DidSteps c s (steps_of steps.items)) (entries_of entries.old.items) (entries_of entries.new.items) session.new) }
+    ensures stopped { IfErr result (λ stop. (c : Course) (s : State) → E.stands c s session.old → IsHost H.honest H.store c s (steps_of steps.items) host.old → BindRepresented c (steps_of steps.items) → Halts (session_of c) c.submission.policies s (steps_of steps.items) (entries_of entries.old.items) (entries_of entries.new.items) stop) }
 {
     for step in steps {
         take_step(alloc, session, step, host, entries)?;

@@ -16,15 +16,14 @@ use Rattle.cedar_evaluator_core.specs.Evaluators.{asked_of, table_in, entities_i
 use Rattle.cedar_evaluator_core.specs.Evaluators as evaluator
 use Rattle.cedar_evaluator_core.specs.declared.evaluator.Evaluator.{Evaluator}
 use Rattle.cedar_evaluator_model.specs.Scope.{Scope}
-use Rattle.cedar_evaluator_operators.specs.Answers.{AnswersMade}
-use Rattle.cedar_evaluator_operators.specs.Calls as operators
+use Rattle.cedar_evaluator_errors.specs.Answers.{AnswersMade}
+use Rattle.cedar_evaluator_errors.specs.Calls as operators
 use Rattle.cedar_evaluator_reads.specs.Scopes.{values_in, store_of}
 use Rattle.cedar_evaluator_requests.specs.Views.{request_of}
 use Rattle.cedar_evaluator_requests.specs.declared.request.Request.{Request}
 use Rattle.cedar_evaluator_restricted_exprs.specs.Answers.{AgreesWith}
 use Rattle.cedar_gate_model.specs.Session.{Setup, State, scope_now}
 use Rattle.cedar_gate_sessions.specs.Gates.{IsKnown}
-use Rattle.cedar_gate_sessions.proofs.Agreeing.{agrees_as_evaluators}
 use Rattle.cedar_gate_sessions.proofs.Scopes.{scope_by, scope_is}
 
 module _ {B : _} {F : _} {g : _} {S : Type 0} (x : Setup) (s : State) (found : Uid → Found Made) (t : Extensions B F g) (agrees : AgreesWith t x.functions)
@@ -45,7 +44,7 @@ module _ {B : _} {F : _} {g : _} {S : Type 0} (x : Setup) (s : State) (found : U
         (ap (λ y. table_of y x.functions.table.answers) table ∙ sym agrees.table)
 
     answers_so : AnswersMade (table_in e) x.functions.calls
-    answers_so = subst (λ y. AnswersMade y x.functions.calls) (sym table) (agrees_as_evaluators t x.functions agrees)
+    answers_so = subst (λ y. AnswersMade y x.functions.calls) (sym table) agrees.answered
 
     -- so what holds of its scope and limit holds of those of the state
     pub holds_now : (P : Scope → ℕ → Type 0) → (AnswersMade (table_in e) x.functions.calls → P (scope_in table_of functions_at e no_bindings) (limit_of e)) → P (scope_now x s found) x.limit

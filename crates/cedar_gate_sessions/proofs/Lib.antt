@@ -1,5 +1,4 @@
 pub mod Absences
-pub mod Agreeing
 pub mod Answerable
 pub mod Answered
 pub mod Binding
@@ -10,6 +9,7 @@ pub mod Lookups
 pub mod Opened
 pub mod Parts
 pub mod Refusing
+mod Represented
 pub mod Scopes
 pub mod Standing
 pub mod Starting

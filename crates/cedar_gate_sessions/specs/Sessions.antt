@@ -13,11 +13,11 @@ use Rattle.cedar_store_entities.specs.declared.entity.Entity.{Entity}
 use Rattle.cedar_store_model.specs.Policy.{Policy}
 use Rattle.cedar_store_model.specs.Store.{Extent, are_distinct, if_uid, whole, partial}
 use Rattle.cedar_store_model.specs.World as world
-use Rattle.cedar_store_model.specs.World.{Found, held}
+use Rattle.cedar_store_model.specs.World.{Found}
 use Rattle.cedar_schema_model.specs.Conforming.{EntityConforms, request_conforms}
 use Rattle.cedar_schema_model.specs.Schema.{Schema}
 use Rattle.cedar_evaluator_model.specs.Response.{PartialRequest}
-use Rattle.cedar_evaluator_model.specs.OfLaws.WellMade.{IsFoundMadeWell, IsContextMadeWell}
+use Rattle.cedar_evaluator_model.specs.OfLaws.WellMade.{IsFoundMadeWell, IsContextRepresented, IsEntityRepresented}
 use Rattle.cedar_evaluator_reads.specs.Scopes.{found_kept}
 use Rattle.cedar_evaluator_requests.specs.Views.{request_of}
 use Rattle.cedar_evaluator_requests.specs.declared.request.Request.{Request}
@@ -34,16 +34,16 @@ use Rattle.cedar_gate_sessions.specs.Entities.{supplied_of, supplied_uids}
 use Rattle.cedar_gate_sessions.specs.Loaded.{AreActions, loaded_at}
 use Rattle.cedar_gate_sessions.specs.declared.session.SessionAt.{SessionAt}
 
--- What is supplied is what the store answers, and its values are as they are written.
+-- What is supplied is what the store answers, and the extension values in it are what the calls of the table give.
 pub record AreFromStore (x : Setup) (ps : List (EntityUID × Option Entity)) : Type 0 where
   pub answered : supplied_of ps ≡ supplied_by x (supplied_uids ps)
-  pub written : (p : EntityUID × Option Entity) → Contains ps p → IfSome p.1 (λ e. IsFoundMadeWell x.functions.table (held (entity_seen e)))
+  pub represented : (p : EntityUID × Option Entity) → Contains ps p → IfSome p.1 (λ e. IsEntityRepresented x.functions.table (entity_seen e))
 
--- The setup is one of the gate with this request, whose context is as it is written.
+-- The setup is one of the gate with this request, and the extension values in its context are what the calls of the table give.
 pub record IsSetup {G : Type 0} (suits : G → Setup → Type 0) (x : Setup) (g : G) (q : Request) : Type 0 where
   pub gate : suits g x
   pub start : request_of q ≡ x.start
-  pub written : IsContextMadeWell x.functions.table x.start.context
+  pub represented : IsContextRepresented x.functions.table x.start.context
 
 -- the gate of a session, the uids that are wanted, and the policies
 abbrev pub gate_of : {G : Type 0} → SessionAt G → G

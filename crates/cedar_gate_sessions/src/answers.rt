@@ -12,7 +12,7 @@ ghost use Rattle.cedar_evaluator_model.specs.OfLaws.Calls.{Agrees};
 ghost use Rattle.cedar_evaluator_model.specs.OfLaws.Whole.{NothingUnknown, AllLoaded};
 ghost use Rattle.cedar_evaluator_model.specs.Response.{verdict as verdict_of};
 ghost use Rattle.cedar_evaluator_model.specs.Scope.{Scope, Left};
-ghost use Rattle.cedar_evaluator_operators.specs.Calls.{Functions};
+ghost use Rattle.cedar_evaluator_errors.specs.Calls.{Functions};
 ghost use Rattle.cedar_evaluator_core.specs.Evaluators.{limit_of, scope_in, table_in, IsTruthOf};
 ghost use Rattle.cedar_evaluator_requests.specs.Views.{error_of, answer_of, decision_of};
 ghost use Rattle.cedar_store_parts.specs.Parts.{id_text};

@@ -6,7 +6,7 @@ ghost use Rattle.cedar_store_policies.specs.Policies.{policy_of};
 ghost use Rattle.cedar_evaluator_model.specs.Response.{verdict as verdict_of};
 ghost use Rattle.cedar_evaluator_model.specs.Scope.{Left};
 ghost use Rattle.cedar_evaluator_model.specs.Steps.{truth_left};
-ghost use Rattle.cedar_evaluator_operators.specs.Calls.{Functions};
+ghost use Rattle.cedar_evaluator_errors.specs.Calls.{Functions};
 ghost use Rattle.cedar_evaluator_core.specs.Evaluators.{limit_of, scope_in, table_in, IsTruthOf};
 ghost use Rattle.cedar_gate_sessions.specs.Outcomes.{error_kind};
 ghost use Rattle.cedar_gate_sessions.specs.Verdicts.{kind_of, verdicts_of};

@@ -36,9 +36,9 @@ pub trait Schema: DeclaredActions {
     fn actions(&self, alloc: Global) -> Result<Vec<Entity>, AllocError>
         ensures { IfOk result (λ es. HasActions (Self.schema self.now) (map entity_pair es.items)) };
 
-    /// Whether the entity conforms to the schema. Fails only when out of memory.
-    fn entity_conforms(&self, alloc: Global, entity: &Entity) -> Result<bool, AllocError>
-        ensures { IfOk result (λ b. b ≡ entity_conforms (Self.schema self.now) (entity_uid entity.now) (entity_of entity.now)) };
+    /// Whether the entity conforms to the schema.
+    fn entity_conforms(&self, entity: &Entity) -> bool
+        ensures { result ≡ entity_conforms (Self.schema self.now) (entity_uid entity.now) (entity_of entity.now) };
 
     /// Whether the request conforms to the schema: all of it is known, and fits its action. Fails only when out of memory.
     fn request_conforms(&self, alloc: Global, request: &Request) -> Result<bool, AllocError>

@@ -8,7 +8,7 @@ ghost use Rattle.cedar_store_model.specs.Answer.{answer_of as answer_meant};
 ghost use Rattle.cedar_store_policies.specs.Policies.{policy_of};
 ghost use Rattle.cedar_evaluator_model.specs.Laws.{as_concrete};
 ghost use Rattle.cedar_evaluator_model.specs.Members.{bounds_in_session, decision_in_session};
-ghost use Rattle.cedar_evaluator_model.specs.OfLaws.WellMade.{IsWellMade};
+ghost use Rattle.cedar_expr_model.specs.OfLaws.Represented.{IsRepresented};
 ghost use Rattle.cedar_evaluator_model.specs.Response.{response_of};
 ghost use Rattle.cedar_evaluator_requests.specs.Views.{request_of, decision_of, answer_of};
 ghost use Rattle.cedar_expr_model.specs.ListLaws.{AreDistinct};
@@ -116,7 +116,7 @@ impl<'g, G: GateCalls> SessionAt<'g, G> {
         ensures gate { gate_of self.new ≡ gate_of self.old }
     {
         self.gate.schema_is();
-        if !are_right(alloc, self.gate, supplied.as_slice())? {
+        if !are_right(self.gate, supplied.as_slice()) {
             return Err(SupplyFault::WrongEntity);
         }
         uids_are_uids();
@@ -141,7 +141,7 @@ impl<'g, G: GateCalls> SessionAt<'g, G> {
     /// 1 the name isn't open, 2 the value is against the annotation, 3 a variable gets no entity or `context` no record, 4 the context
     /// fails to evaluate with it; or out of memory.
     pub fn bind(&mut self, alloc: Global, name: RcStr, value: V) -> Result<(), BindFault>
-        ensures at { OnOk result ((x : Setup) (s : State) → IsAt G.suits x s self.old → IsWellMade x.functions.table (made extension_of value) → IsAt G.suits x (with_bound s (rc_str_bytes name) (made extension_of value)) self.new) }
+        ensures at { OnOk result ((x : Setup) (s : State) → IsAt G.suits x s self.old → IsRepresented x.functions.table (made extension_of value) → IsAt G.suits x (with_bound s (rc_str_bytes name) (made extension_of value)) self.new) }
         ensures taken { OnOk result (IsFitBinding (start_of self.old) (bound_by self.old) (rc_str_bytes name) (made extension_of value)) }
         ensures evaluates { OnOk result (EvaluatesWith G.suits self.old (rc_str_bytes name) (made extension_of value)) }
         ensures refused { IfErr result (IsRefusedBinding G.suits self.old (rc_str_bytes name) (made extension_of value)) }

@@ -14,38 +14,25 @@ use cedar_gate_wanted::Loading;
 use cedar_store_entities::Entity;
 use std::alloc::{AllocError, Global};
 
-/// Whether each entity is under its uid and conforms. Fails only when out of memory.
-pub(crate) fn are_right<S: Schema>(
-    alloc: Global,
-    schema: &S,
-    supplied: &[(EntityUID, Option<Entity>)],
-) -> Result<bool, AllocError>
-    ensures { IfOk result (λ b. b ≡ list_all (is_right (S.schema schema.now)) (supplied_of supplied.now)) }
+/// Whether each entity is under its uid and conforms.
+pub(crate) fn are_right<S: Schema>(schema: &S, supplied: &[(EntityUID, Option<Entity>)]) -> bool
+    ensures { result ≡ list_all (is_right (S.schema schema.now)) (supplied_of supplied.now) }
 {
     for pair in supplied {
-        if !is_right(alloc, schema, pair)? {
-            return Ok(false);
+        if !is_right(schema, pair) {
+            return false;
         }
     }
-    Ok(true)
+    true
 }
 
 // Whether the entity is under its uid and conforms.
-fn is_right<S: Schema>(
-    alloc: Global,
-    schema: &S,
-    pair: &(EntityUID, Option<Entity>),
-) -> Result<bool, AllocError>
-    ensures { IfOk result (λ b. b ≡ is_right (S.schema schema.now) (supplied_pair pair.now)) }
+fn is_right<S: Schema>(schema: &S, pair: &(EntityUID, Option<Entity>)) -> bool
+    ensures { result ≡ is_right (S.schema schema.now) (supplied_pair pair.now) }
 {
     match &pair.1 {
-        None => Ok(true),
-        Some(entity) => {
-            if !pair.0.same(entity.uid()) {
-                return Ok(false);
-            }
-            schema.entity_conforms(alloc, entity)
-        }
+        None => true,
+        Some(entity) => pair.0.same(entity.uid()) && schema.entity_conforms(entity),
     }
 }
 

@@ -38,10 +38,13 @@ use Rattle.cedar_gate_model.specs.RunsAlike.{bound_by, course_world, by_steps, b
 use Rattle.cedar_gate_model.proofs.Gate.Reach.{only_the_slice_answers}
 use Rattle.cedar_gate_model.proofs.Gate.Slices.{near_kept}
 use Rattle.cedar_gate_model.proofs.Runs.Answering.{at_end, fit}
+use Rattle.cedar_gate_model.proofs.Runs.Asking.{runs_ask_in_the_slice}
 use Rattle.cedar_gate_model.proofs.Runs.Completing.{found_bound, head_value}
 use Rattle.cedar_gate_model.proofs.Runs.Contexts.{was_open, binding_grows}
 use Rattle.cedar_gate_model.proofs.Runs.Deciding.{unknowns_say_nothing, none_has_unknowns, leaves_nothing, answer_is}
 use Rattle.cedar_gate_model.proofs.Runs.Did.{Did, Consumed, run_did}
+use Rattle.cedar_gate_model.proofs.Runs.Ordered.{follows_so}
+use Rattle.cedar_gate_model.proofs.Runs.Outside.{runs_stay}
 
 -- The world of a session by the values that are bound.
 module _ (v w : Bindings) (same : (n : Text) → v n ≡ w n) where
@@ -192,6 +195,12 @@ moved_policies_answer_alike c qs es fs a b moved run other =
       subst (λ z. SameMembers z b.errors) (sym (ap (λ z. z.errors) e)) (subst (λ z. SameMembers (answer_of w ps).errors z) (sym (ap (λ z. z.errors) f)) h.2),
     )
 
+pub moved_policies_run : (c : Course) (qs : List Policy) (es : List transcript.Entry) (a : Answer) → IsPermutation c.submission.policies qs → MayRun c es (answered a)
+    → MayRun (by_policies c qs) es (answered (answer_of (end_world c es) qs))
+moved_policies_run c qs es a moved run =
+    let ps = c.submission.policies in
+    (run.0, follows_so ps qs (λ p. (Contains-permutation ps qs p moved, Contains-permutation qs ps p (IsPermutation-sym ps qs moved))) (session_of c) at_start c.steps es a run.1)
+
 -- stores that differ outside of the slice
 same_reach : (u : Uid) (d : Bool) (e : Entity V) (o p : Option (Entity V)) → (d ≡ false → p ≡ o) → cond d (held e) (if_uid u (found_as whole p)) ≡ cond d (held e) (if_uid u (found_as whole o))
 same_reach u true e o p h = refl
@@ -201,21 +210,33 @@ never : (b : Bool) → b ≡ true → b ≡ false → ⊥
 never true e f = cc
 never false e f = cc
 
-pub outside_says_nothing : (c : Course) (store : Uid → Option (Entity V)) (es fs : List transcript.Entry) (a b : Answer) → IsProper c
-    → ((u : Uid) → InSlice (session_of c).schema (session_of c).level (course_world c) u → store u ≡ c.store u)
-    → MayRun c es (answered a) → MayRun (over_store c store) fs (answered b) → a ≡ b
-outside_says_nothing c store es fs a b proper same run other =
-    let x = session_of c in
-    let ps = c.submission.policies in
-    let w = end_world c es in
-    let other_store = whole_store (session_of (over_store c store)) in
-    let clear = unknowns_say_nothing in
-    let near : (u : Uid) → InSlice x.schema x.level (with_unknowns w) u → store u ≡ c.store u =
-    λ u h. same u (subst (λ z. InSlice x.schema x.level z u) (ends_are_the_courses c es a run) (near_kept (with_unknowns w) w (λ v k. k) (λ v y k. k) x.level u h.0, h.1)) in
-    let agree : (u : Uid) → IsInReach x.schema x.level (with_unknowns w) u → other_store u ≡ (with_unknowns w).store u =
-    λ u h. same_reach u (declares_action x.schema u) (as_entity x.schema u) (c.store u) (store u) (λ f. ⊎_elim (near u) (λ e. absurd (never (declares_action x.schema u) e f)) h) in
-    let moved : answer_of (with_store w other_store) ps ≡ answer_of w ps =
-    sym (clear (with_store w other_store) ps (leaves_nothing c proper) (none_has_unknowns c proper))
-    ∙ only_the_slice_answers c.submission (with_unknowns w) proper.accepted (at_end c proper es a run (λ stands opened nothing fine. fit c proper (end_state c.steps es) stands opened nothing fine)) other_store agree
-    ∙ clear w ps (leaves_nothing c proper) (none_has_unknowns c proper) in
-    answer_is c es a run ∙ sym moved ∙ ap (λ z. answer_of (with_store z other_store) ps) (ends_are_the_courses c es a run) ∙ sym (course_answer (over_store c store) fs b other)
+module _ (c : Course) (store : Uid → Option (Entity V)) (proper : IsProper c) (same : (u : Uid) → InSlice (session_of c).schema (session_of c).level (course_world c) u → store u ≡ c.store u) where
+  -- over the other store the world at the end has the same answer
+  outside_moves : (es : List transcript.Entry) (a : Answer) → MayRun c es (answered a)
+      → answer_of (with_store (end_world c es) (whole_store (session_of (over_store c store)))) c.submission.policies ≡ answer_of (end_world c es) c.submission.policies
+  outside_moves es a run =
+      let x = session_of c in
+      let ps = c.submission.policies in
+      let w = end_world c es in
+      let other_store = whole_store (session_of (over_store c store)) in
+      let clear = unknowns_say_nothing in
+      let near : (u : Uid) → InSlice x.schema x.level (with_unknowns w) u → store u ≡ c.store u =
+      λ u h. same u (subst (λ z. InSlice x.schema x.level z u) (ends_are_the_courses c es a run) (near_kept (with_unknowns w) w (λ v k. k) (λ v y k. k) x.level u h.0, h.1)) in
+      let agree : (u : Uid) → IsInReach x.schema x.level (with_unknowns w) u → other_store u ≡ (with_unknowns w).store u =
+      λ u h. same_reach u (declares_action x.schema u) (as_entity x.schema u) (c.store u) (store u) (λ f. ⊎_elim (near u) (λ e. absurd (never (declares_action x.schema u) e f)) h) in
+      sym (clear (with_store w other_store) ps (leaves_nothing c proper) (none_has_unknowns c proper))
+      ∙ only_the_slice_answers c.submission (with_unknowns w) proper.accepted (at_end c proper es a run (λ stands opened nothing fine. fit c proper (end_state c.steps es) stands opened nothing fine)) other_store agree
+      ∙ clear w ps (leaves_nothing c proper) (none_has_unknowns c proper)
+
+  pub outside_says_nothing : (es fs : List transcript.Entry) (a b : Answer) → MayRun c es (answered a) → MayRun (over_store c store) fs (answered b) → a ≡ b
+  outside_says_nothing es fs a b run other =
+      answer_is c es a run ∙ sym (outside_moves es a run)
+      ∙ ap (λ z. answer_of (with_store z (whole_store (session_of (over_store c store)))) c.submission.policies) (ends_are_the_courses c es a run) ∙ sym (course_answer (over_store c store) fs b other)
+
+  -- and the run is one over the other store too
+  pub outside_runs_stay : (es : List transcript.Entry) (a : Answer) → MayRun c es (answered a) → MayRun (over_store c store) es (answered a)
+  outside_runs_stay es a run =
+      let x = session_of c in
+      let ps = c.submission.policies in
+      let asked = runs_ask_in_the_slice (MayDecide x ps) x ps c.steps es (answered a) proper.context run in
+      (run.0, runs_stay x ps store c.steps es a (λ u k. same u (subst (λ z. InSlice x.schema x.level z u) (ends_are_the_courses c es a run) (asked u k))) (outside_moves es a run) run.1)

@@ -33,7 +33,7 @@ returns-in-Some-clause-ok g c = λ x a.
     let e : t ≡ record_literal fs = c.record_arc-record.ensures.tree ∙ ap (λ m. record_literal (tree_fields (named (field_trees {T = Unit} m.entries)))) c.in_ok-new.ensures.ok in
     let r : is_restricted t ≡ true = search rules in
     context_of_record x ms fs t c.in_ok-fields.ensures.ok e r ∙ ap context_from (c.in_ok-left.ensures.left x a)
-    ∙ sym (c.in_ok-context.ensures (is_left_of_record x fs t c.in_ok-left.left e r (c.in_ok-left.ensures.left x a))) ∙ ap (option_map context_of) c.in-Some.is
+    ∙ sym (c.in_ok-context.ensures.context (is_left_of_record x fs t c.in_ok-left.left e r (c.in_ok-left.ensures.left x a))) ∙ ap (option_map context_of) c.in-Some.is
 
 pub returns-clause-unreadable : goal.returns-clause-unreadable
 returns-clause-unreadable g c = λ q x a.
@@ -43,4 +43,4 @@ returns-clause-unreadable g c = λ q x a.
     let e : t ≡ record_literal fs = c.record_arc-record.ensures.tree ∙ ap (λ m. record_literal (tree_fields (named (field_trees {T = Unit} m.entries)))) c.in_ok-new.ensures.ok in
     let r : is_restricted t ≡ true = search rules in
     context_of_record x ms fs t c.in_ok-fields.ensures.ok e r ∙ ap context_from (c.in_ok-left.ensures.left x a)
-    ∙ sym (c.in_ok-context.ensures (is_left_of_record x fs t c.in_ok-left.left e r (c.in_ok-left.ensures.left x a))) ∙ ap (option_map context_of) c.in-None.is
+    ∙ sym (c.in_ok-context.ensures.context (is_left_of_record x fs t c.in_ok-left.left e r (c.in_ok-left.ensures.left x a))) ∙ ap (option_map context_of) c.in-None.is

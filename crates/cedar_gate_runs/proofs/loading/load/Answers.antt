@@ -2,7 +2,7 @@ use Rattle.std.proofs.Common.{inr, ◌≡◌, [], ◌∷◌, ◌++◌, map, leng
 use Rattle.cedar_expr_names.specs.Views.{uid_of}
 use Rattle.cedar_gate_model.specs.Runs.{supplied_by, with_asked}
 use Rattle.cedar_gate_model.specs.RunsAnswer.{session_of}
-use Rattle.cedar_gate_model.specs.Session.{SupplyRefusal, SupplyFault}
+use Rattle.cedar_gate_model.specs.Session.{IsWantedList, SupplyRefusal, SupplyFault}
 use Rattle.cedar_gate_model.specs.Transcript.{round}
 use Rattle.cedar_gate_runs.proofs.Asked.{alone_beyond, memory_beyond, memory_beyond_one, one_more}
 use Rattle.cedar_gate_runs.proofs.Faulted.{round_stops}
@@ -37,7 +37,7 @@ returns-clause-did g c =
       leads = round_done (session_of d) s us (λ k. some (uids_none items k)) (c.in_ok-wanted.ensures.exact d s h)
           (subst (λ vs. (f : SupplyRefusal) → SupplyFault (session_of d) s (supplied_by (session_of d) vs) f → ⊥) same (c.in_ok-take_in.ensures.taken d s h i));
       added = pushed_in_room _ _ _ _ (round us) c.in_ok-reserve.ensures.items c.in_ok-push.ensures.items refl;
-      at = subst (λ vs. g.E.SessionCalls.stands d (with_asked s vs) c.take_in.new.session) same (c.in_ok-take_in.ensures.at d s h i (same ∙ c.in_ok-wanted.ensures.wanted));
+      at = subst (λ vs. g.E.SessionCalls.stands d (with_asked s vs) c.take_in.new.session) same (c.in_ok-take_in.ensures.at d s h i (subst (IsWantedList (session_of d) s) (sym same) (c.in_ok-wanted.ensures.exact d s h)) (same ∙ c.in_ok-wanted.ensures.wanted));
     }
 
 pub returns-clause-asked : goal.returns-clause-asked

@@ -1,6 +1,7 @@
-use Rattle.std.proofs.Common.{rules, ◌≡◌, ◌<◌, true, false, ap, refl, ◌∙◌, subst, arith}
+use Rattle.std.proofs.Common.{rules, ◌≡◌, ◌<◌, [], true, false, ap, refl, ◌∙◌, subst, arith}
 use Rattle.cedar_gate_model.specs.RunsAnswer.{session_of}
 use Rattle.cedar_gate_runs.proofs.Asked.{beyond_on}
+use Rattle.cedar_gate_runs.proofs.Hosted.{host_loaded}
 use Rattle.cedar_gate_runs.proofs.Looped.{loading_none, loading_more, loading_ends, loading_halts, loading_few}
 use Rattle.cedar_gate_runs.proofs.Pushed.{handed}
 use Rattle.cedar_gate_runs.specs.Running.{Went, DidLoad}
@@ -13,7 +14,7 @@ pub loop-round-init : goal.loop-round-init
 loop-round-init g c = record {
   faults = refl;
   asked = λ first h. h;
-  host = λ d i. i;
+  host = λ d s steps i. i;
   loading = λ d s h i. loading_none (g.E.SessionCalls.stands d) (session_of d) s _ _ h;
 }
 
@@ -24,26 +25,26 @@ loop-round-preserved g c =
     record {
       faults = c.in_ok-load.ensures.faults ∙ i.faults;
       asked = λ first h. c.in_ok-load.ensures.asked first (i.asked first h);
-      host = λ d k. c.in_ok-load.ensures.host d (i.host d k);
+      host = λ d s steps k. c.in_ok-load.ensures.host d s steps (i.host d s steps k);
       loading = λ d s h k.
           let l = i.loading d s h k in
-          let w = c.in_ok-load.ensures.did d l.went.state l.went.at (i.host d k) in
+          let w = c.in_ok-load.ensures.did d l.went.state l.went.at (host_loaded g.H.Host.honest g.H.Host.store d s l.went.state c.loop-round.host l.went.entries l.went.leads (i.host d s [] k)) in
           loading_more (g.E.SessionCalls.stands d) (session_of d) s c.loop-round._round _ _ _ _ _ l
           (subst (λ b. Went (g.E.SessionCalls.stands d) (DidLoad (session_of d) l.went.state b) (entries_of c.loop-round.entries.items) (entries_of c.load.new.entries.items) c.load.new.session) more w);
     }
 
 pub returns-in_err-load-clause-host : goal.returns-in_err-load-clause-host
-returns-in_err-load-clause-host g c = λ d k. c.in_err-load.ensures.host d (c.loop-round.invariant.host d k)
+returns-in_err-load-clause-host g c = λ d s steps k. c.in_err-load.ensures.host d s steps (c.loop-round.invariant.host d s steps k)
 
 pub returns-in_err-load-clause-stopped : goal.returns-in_err-load-clause-stopped
 returns-in_err-load-clause-stopped g c = handed _ c.in_err-load.field-0.0 c.from_residual.result c.from_residual.ensures.1
     (λ d s h k.
     let i = c.loop-round.invariant in
     let l = i.loading d s h k in
-    loading_halts (g.E.SessionCalls.stands d) (session_of d) s c.loop-round._round _ _ _ _ c.in_err-load.field-0.0 l c.in_err-load.ensures.unchanged (c.in_err-load.ensures.stopped d l.went.state l.went.at (i.host d k)))
+    loading_halts (g.E.SessionCalls.stands d) (session_of d) s c.loop-round._round _ _ _ _ c.in_err-load.field-0.0 l c.in_err-load.ensures.unchanged (c.in_err-load.ensures.stopped d l.went.state l.went.at (host_loaded g.H.Host.honest g.H.Host.store d s l.went.state c.loop-round.host l.went.entries l.went.leads (i.host d s [] k))))
 
 pub returns-then-not-branch-clause-host : goal.returns-then-not-branch-clause-host
-returns-then-not-branch-clause-host g c = λ d k. c.in_ok-load.ensures.host d (c.loop-round.invariant.host d k)
+returns-then-not-branch-clause-host g c = λ d s steps k. c.in_ok-load.ensures.host d s steps (c.loop-round.invariant.host d s steps k)
 
 pub returns-then-not-branch-clause-faults : goal.returns-then-not-branch-clause-faults
 returns-then-not-branch-clause-faults g c = c.in_ok-load.ensures.faults ∙ c.loop-round.invariant.faults
@@ -54,7 +55,7 @@ returns-then-not-branch-clause-did g c =
     let none : c.in_ok-load.field-0 ≡ false = search rules in
     λ d s h k.
     let l = i.loading d s h k in
-    let w = c.in_ok-load.ensures.did d l.went.state l.went.at (i.host d k) in
+    let w = c.in_ok-load.ensures.did d l.went.state l.went.at (host_loaded g.H.Host.honest g.H.Host.store d s l.went.state c.loop-round.host l.went.entries l.went.leads (i.host d s [] k)) in
     loading_ends (g.E.SessionCalls.stands d) (session_of d) s c.loop-round._round _ _ _ _ _ l
     (subst (λ b. Went (g.E.SessionCalls.stands d) (DidLoad (session_of d) l.went.state b) (entries_of c.loop-round.entries.items) (entries_of c.load.new.entries.items) c.load.new.session) none w)
 

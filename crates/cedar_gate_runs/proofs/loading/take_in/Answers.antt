@@ -26,15 +26,15 @@ pub returns-in-Ok-clause-host : goal.returns-in-Ok-clause-host
 returns-in-Ok-clause-host g c = host_stays g.H.Host.honest g.H.Host.store _ _ c.in_ok-supplied.ensures.store c.in_ok-supplied.ensures.honest
 
 pub returns-in-Ok-clause-at : goal.returns-in-Ok-clause-at
-returns-in-Ok-clause-at g c = λ d s h i e.
+returns-in-Ok-clause-at g c = λ d s h i w e.
     let us = map uid_of c.args.wanted.now in
-    let a = are_answers g.H.Host.honest g.H.Host.store d c.args.host.now i c.in_ok-supplied.supplied.items us (c.in_ok-supplied.ensures.answers i.honest) in
+    let a = are_answers g.H.Host.honest g.H.Host.store d s c.args.host.now i c.in_ok-supplied.supplied.items us (c.in_ok-supplied.ensures.answers i.honest) w in
     subst (λ vs. g.E.SessionCalls.stands d (with_asked s vs) c.supply.new.self) (sym e) (c.in-Ok.ensures.at d s h a)
 
 pub returns-in-Ok-clause-taken : goal.returns-in-Ok-clause-taken
 returns-in-Ok-clause-taken g c = λ d s h i f k.
     let us = map uid_of c.args.wanted.now in
-    let e = supplied_is g.H.Host.honest g.H.Host.store d c.args.host.now i c.in_ok-supplied.supplied.items us (c.in_ok-supplied.ensures.answers i.honest) in
+    let e = supplied_is g.H.Host.honest g.H.Host.store d s c.args.host.now i c.in_ok-supplied.supplied.items us (c.in_ok-supplied.ensures.answers i.honest) in
     c.in-Ok.ensures.taken d s h f (subst (λ ps. SupplyFault (session_of d) s ps f) (sym e) k)
 
 pub returns-in-Err-clause-host : goal.returns-in-Err-clause-host
@@ -43,7 +43,7 @@ returns-in-Err-clause-host g c = host_stays g.H.Host.honest g.H.Host.store _ _ c
 pub returns-in-Err-clause-refused : goal.returns-in-Err-clause-refused
 returns-in-Err-clause-refused g c = λ d s h i.
     let us = map uid_of c.args.wanted.now in
-    let e = supplied_is g.H.Host.honest g.H.Host.store d c.args.host.now i c.in_ok-supplied.supplied.items us (c.in_ok-supplied.ensures.answers i.honest) in
+    let e = supplied_is g.H.Host.honest g.H.Host.store d s c.args.host.now i c.in_ok-supplied.supplied.items us (c.in_ok-supplied.ensures.answers i.honest) in
     subst (StopsSupply (session_of d) s (supplied_by (session_of d) us)) (sym c.supplying.ensures)
     (supply_stops (session_of d) s (supplied_by (session_of d) us) c.in-Err.refusal (subst (λ ps. IsSupplyRefusal (session_of d) s ps c.in-Err.refusal) e (c.in-Err.ensures.refused d s h)))
 

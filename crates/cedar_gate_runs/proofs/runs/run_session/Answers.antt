@@ -1,7 +1,7 @@
 use Rattle.std.proofs.Common.{Some, refl, sym, ap, ◌∙◌, subst}
 use Rattle.cedar_gate_model.specs.Session.{at_start}
 use Rattle.cedar_gate_runs.proofs.Asked.{asked_first, keeps_answered}
-use Rattle.cedar_gate_runs.proofs.Ended.{steps_bind_well, run_answers, run_stops}
+use Rattle.cedar_gate_runs.proofs.Ended.{host_given, steps_represented, run_answers, run_stops}
 use Rattle.cedar_gate_runs.proofs.Losing.{so_far, rounds_once, stopped_once}
 use Rattle.cedar_gate_runs.specs.Lost.{AskedSoFar}
 use Rattle.cedar_gate_runs.specs.Transcripts.{entries_of}
@@ -14,7 +14,7 @@ returns-in-Ok-clause-run g c = λ d by.
     let stands = g.E.SessionCalls.stands in
     let t : Transcript = record { entries = c.follow.new.entries; answer = Some c.in-Ok.response } in
     run_answers stands d c.args.session c.args.steps.items by.session t c.in-Ok.response _ refl (ap entries_of c.new-entries.ensures.items)
-    (c.in-Ok.ensures.answered d at_start by.session.stands by.host (steps_bind_well stands d c.args.session c.args.steps.items by.session))
+    (c.in-Ok.ensures.answered d at_start by.session.stands (host_given stands g.H.Host.honest g.H.Host.store d c.args.session c.args.steps.items c.args.host.now by) (steps_represented stands d c.args.session c.args.steps.items by.session))
 
 pub returns-in-Ok-clause-promises : goal.returns-in-Ok-clause-promises
 returns-in-Ok-clause-promises g c = λ d by proper fair.
@@ -41,7 +41,7 @@ returns-clause-run g c = λ d by.
     let stands = g.E.SessionCalls.stands in
     c.stopped.ensures.stopped d by.session.opens
     (run_stops stands d c.args.session c.args.steps.items by.session _ _ c.in-Err.stop (ap entries_of c.new-entries.ensures.items)
-    (c.in-Err.ensures.stopped d at_start by.session.stands by.host (steps_bind_well stands d c.args.session c.args.steps.items by.session)))
+    (c.in-Err.ensures.stopped d at_start by.session.stands (host_given stands g.H.Host.honest g.H.Host.store d c.args.session c.args.steps.items c.args.host.now by) (steps_represented stands d c.args.session c.args.steps.items by.session)))
 
 pub returns-clause-host : goal.returns-clause-host
 returns-clause-host g c = record {
@@ -54,7 +54,7 @@ returns-clause-asked g c = λ d by.
     let stands = g.E.SessionCalls.stands in
     let last = subst (λ es. AskedSoFar d (g.H.Host.asked c.args.host.now) (g.H.Host.asked c.follow.new.host) es) (sym c.stopped.ensures.entries)
     (so_far stands d c.args.session c.args.steps.items by.session _ _ _ _ (ap entries_of c.new-entries.ensures.items)
-    (c.in-Err.ensures.last d at_start (g.H.Host.asked c.args.host.now) by.session.stands by.host (steps_bind_well stands d c.args.session c.args.steps.items by.session) (asked_first _ _ (ap entries_of c.new-entries.ensures.items)))) in
+    (c.in-Err.ensures.last d at_start (g.H.Host.asked c.args.host.now) by.session.stands (host_given stands g.H.Host.honest g.H.Host.store d c.args.session c.args.steps.items c.args.host.now by) (steps_represented stands d c.args.session c.args.steps.items by.session) (asked_first _ _ (ap entries_of c.new-entries.ensures.items)))) in
     record { last = last; once = λ proper fair. stopped_once c.moments_keep.ensures.keep c.moments_keep.ensures.wanted d _ _ _ proper fair last }
 
 pub returns-clause-promises : goal.returns-clause-promises

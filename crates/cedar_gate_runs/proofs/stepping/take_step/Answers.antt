@@ -5,11 +5,11 @@ use Rattle.cedar_expr_values.specs.Values.{made}
 use Rattle.cedar_gate_model.specs.RunsAnswer.{session_of}
 use Rattle.cedar_gate_runs.proofs.Asked.{alone_beyond, asked_alone, memory_beyond}
 use Rattle.cedar_gate_runs.proofs.Ended.{carried_err}
-use Rattle.cedar_gate_runs.proofs.Looped.{bound_well}
+use Rattle.cedar_gate_runs.proofs.Looped.{bound_represented}
 use Rattle.cedar_gate_runs.proofs.Pushed.{handed, carried_ok}
 use Rattle.cedar_gate_runs.proofs.Stepped.{load_stops}
 use Rattle.cedar_gate_runs.specs.Asking.{AskedBeyond}
-use Rattle.cedar_gate_runs.specs.Courses.{BindWell, DidSteps}
+use Rattle.cedar_gate_runs.specs.Courses.{BindRepresented, DidSteps}
 use Rattle.cedar_gate_runs.specs.Running.{Went}
 use Rattle.cedar_gate_runs.specs.Steps.{step_of}
 use Rattle.cedar_gate_runs.specs.Stopping.{IsRefused}
@@ -30,7 +30,7 @@ returns-in_err-load-in-Load-clause-stopped g c =
 pub returns-in-Bind-clause-did : goal.returns-in-Bind-clause-did
 returns-in-Bind-clause-did g c = carried_ok _ _ c.bind_name.result
     (λ p d s h i b.
-    let well = bound_well d (rc_str_bytes c.in-Bind.name) (made extension_of c.in-Bind.value) (subst (λ z. BindWell d (step_of z ∷ [])) c.in-Bind.is b) in
+    let well = bound_represented d (rc_str_bytes c.in-Bind.name) (made extension_of c.in-Bind.value) (subst (λ z. BindRepresented d (step_of z ∷ [])) c.in-Bind.is b) in
     subst (λ z. Went (g.E.SessionCalls.stands d) (DidSteps d s (step_of z ∷ [])) (entries_of c.args.entries.now.items) (entries_of c.bind_name.new.entries.items) c.bind_name.new.session) (sym c.in-Bind.is) (p d s h well))
     c.bind_name.ensures.did
 

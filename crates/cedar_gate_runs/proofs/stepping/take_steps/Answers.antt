@@ -3,10 +3,11 @@ use Rattle.std.proofs.lemmas.List.{append-nil, map-append, nil_from_length}
 use Rattle.std.specs.Vec.Iter.{into_iter_items}
 use Rattle.cedar_gate_model.specs.RunsAnswer.{session_of}
 use Rattle.cedar_gate_runs.proofs.Asked.{beyond_on}
-use Rattle.cedar_gate_runs.proofs.Looped.{went_none, halts_on, one_binds_well}
+use Rattle.cedar_gate_runs.proofs.Hosted.{host_after}
+use Rattle.cedar_gate_runs.proofs.Looped.{went_none, halts_on, one_represented}
 use Rattle.cedar_gate_runs.proofs.Pushed.{handed}
 use Rattle.cedar_gate_runs.proofs.Stepped.{went_more}
-use Rattle.cedar_gate_runs.specs.Courses.{BindWell, DidSteps}
+use Rattle.cedar_gate_runs.specs.Courses.{BindRepresented, DidSteps}
 use Rattle.cedar_gate_runs.specs.Running.{Went}
 use Rattle.cedar_gate_runs.specs.Steps.{step_of, steps_of}
 use Rattle.cedar_gate_runs.specs.Transcripts.{entries_of}
@@ -19,7 +20,7 @@ loop-step-init g c = record {
   goes = search rules;
   faults = refl;
   asked = λ first h. h;
-  host = λ d i. i;
+  host = λ d s steps i. i;
   went = λ d s h i b. went_none (g.E.SessionCalls.stands d) d s _ _ h;
 }
 
@@ -34,12 +35,12 @@ loop-step-preserved g c =
       goes = all ∙ sym (append_assoc ys (step ∷ []) rest);
       faults = c.in_ok-take_step.ensures.faults ∙ i.faults;
       asked = λ first h. c.in_ok-take_step.ensures.asked first (i.asked first h);
-      host = λ d k. c.in_ok-take_step.ensures.host d (i.host d k);
+      host = λ d s steps k. c.in_ok-take_step.ensures.host d s steps (i.host d s steps k);
       went = λ d s h k b.
           let w = i.went d s h k b in
           let each = ap steps_of all ∙ map-append step_of ys (step ∷ rest) in
-          let one = one_binds_well d (steps_of ys) (step_of step) (steps_of rest) (subst (BindWell d) each b) in
-          let v = c.in_ok-take_step.ensures.did d w.state w.at (i.host d k) one in
+          let one = one_represented d (steps_of ys) (step_of step) (steps_of rest) (subst (BindRepresented d) each b) in
+          let v = c.in_ok-take_step.ensures.did d w.state w.at (host_after g.H.Host.honest g.H.Host.store d s w.state c.loop-step.host (steps_of c.args.steps.items) (steps_of ys) (step_of step ∷ steps_of rest) w.entries (sym each) w.leads (i.host d s (steps_of c.args.steps.items) k)) one in
           let more = went_more (session_of d) d.submission.policies (g.E.SessionCalls.stands d) s (steps_of ys) (step_of step) _ _ _ _ _ w v in
           subst (λ zs. Went (g.E.SessionCalls.stands d) (DidSteps d s zs) (entries_of c.args.entries.now.items) (entries_of c.take_step.new.entries.items) c.take_step.new.session) (sym (map-append step_of ys (step ∷ []))) more;
     }
@@ -56,7 +57,7 @@ returns-in_err-take_step-clause-stopped g c =
     let w = i.went d s h k b in
     let each = ap steps_of all ∙ map-append step_of ys (step ∷ rest) in
     halts_on (g.E.SessionCalls.stands d) d s (steps_of c.args.steps.items) (steps_of ys) (step_of step ∷ steps_of rest) _ _ _ _ c.in_err-take_step.field-0.0 (sym each) c.in_err-take_step.ensures.unchanged w
-    (c.in_err-take_step.ensures.stopped d w.state (steps_of rest) w.at (i.host d k)))
+    (c.in_err-take_step.ensures.stopped d w.state (steps_of rest) w.at (host_after g.H.Host.honest g.H.Host.store d s w.state c.loop-step.host (steps_of c.args.steps.items) (steps_of ys) (step_of step ∷ steps_of rest) w.entries (sym each) w.leads (i.host d s (steps_of c.args.steps.items) k))))
 
 pub returns-clause-did : goal.returns-clause-did
 returns-clause-did g c = λ d s h i b.
@@ -66,7 +67,7 @@ returns-clause-did g c = λ d s h i b.
     subst (λ zs. Went (g.E.SessionCalls.stands d) (DidSteps d s (steps_of zs)) (entries_of c.args.entries.now.items) (entries_of c.loop-step.entries.items) c.loop-step.session) (sym e) (c.loop-step.invariant.went d s h i b)
 
 pub returns-in_err-take_step-clause-host : goal.returns-in_err-take_step-clause-host
-returns-in_err-take_step-clause-host g c = λ d k. c.in_err-take_step.ensures.host d (c.loop-step.invariant.host d k)
+returns-in_err-take_step-clause-host g c = λ d s steps k. c.in_err-take_step.ensures.host d s steps (c.loop-step.invariant.host d s steps k)
 
 pub returns-in_err-take_step-clause-beyond : goal.returns-in_err-take_step-clause-beyond
 returns-in_err-take_step-clause-beyond g c = handed _ c.in_err-take_step.field-0.0 c.from_residual.result c.from_residual.ensures.1

@@ -2,7 +2,7 @@
 use Rattle.std.proofs.Common.{◌≡◌, map, take}
 use Rattle.cedar_store_model.specs.Policy.{no_bindings}
 use Rattle.cedar_store_policies.specs.Policies.{policy_of}
-use Rattle.cedar_evaluator_operators.specs.Calls.{Functions}
+use Rattle.cedar_evaluator_errors.specs.Calls.{Functions}
 use Rattle.cedar_evaluator_core.specs.Evaluators.{limit_of, scope_in, table_in}
 use Rattle.cedar_gate_sessions.specs.Verdicts.{verdicts_of}
 use Rattle.cedar_gate_sessions.proofs.evaluations.verdicts.Given as goal

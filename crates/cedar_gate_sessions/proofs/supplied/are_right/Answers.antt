@@ -4,7 +4,7 @@ use Rattle.cedar_gate_sessions.specs.Entities.{supplied_pair}
 use Rattle.cedar_gate_sessions.specs.Loaded.{is_right}
 use Rattle.cedar_gate_sessions.proofs.supplied.are_right.Goals as goal
 
-pub returns-then-not-branch : goal.returns-then-not-branch
-returns-then-not-branch g c =
-    let wrong : c.in_ok-is_right.field-0 ≡ false = search rules in
-    sym (all_stop (is_right (g.S.DeclaredActions.schema c.args.schema.now)) supplied_pair c.args.supplied.now c.loop-pair.pair-index c.pair-item.result c.loop-pair-test.true c.pair-item.is (sym c.in_ok-is_right.ensures ∙ wrong))
+pub returns-then-not-is_right : goal.returns-then-not-is_right
+returns-then-not-is_right g c =
+    let wrong : c.is_right.result ≡ false = search rules in
+    sym (all_stop (is_right (g.S.DeclaredActions.schema c.args.schema.now)) supplied_pair c.args.supplied.now c.loop-pair.pair-index c.pair-item.result c.loop-pair-test.true c.pair-item.is (sym c.is_right.ensures ∙ wrong))

@@ -8,7 +8,7 @@ pub returns-in-Ok-clause-at : goal.returns-in-Ok-clause-at
 returns-in-Ok-clause-at g c = λ d s h a. record {
   proper = h.proper;
   fair = h.fair;
-  at = c.in-Ok.ensures.at (session_of d) s h.at (record { answered = a.answered; written = a.written });
+  at = c.in-Ok.ensures.at (session_of d) s h.at (record { answered = a.answered; represented = a.represented });
   policies = ap g.G.GateCalls.accepted c.in-Ok.ensures.gate ∙ h.policies;
 }
 

@@ -1,7 +1,9 @@
 use Rattle.std.proofs.Common.{rules, ◌≡◌, ◌∙◌, true, false, sym, subst, refl}
 use Rattle.std.specs.Rc.{rc_str_bytes}
 use Rattle.cedar_expr_values.specs.Extensions.{extension_of}
+use Rattle.cedar_expr_values.specs.Members.{value_kept}
 use Rattle.cedar_expr_values.specs.Values.{made}
+use Rattle.cedar_evaluator_model.proofs.Represented.{well_of_represented}
 use Rattle.cedar_evaluator_requests.specs.Views.{request_of}
 use Rattle.cedar_gate_model.specs.Session.{with_bound}
 use Rattle.cedar_gate_openings.specs.Faults.{IsValueFault}
@@ -38,11 +40,12 @@ returns-in-Ok-clause-at g c =
     let n = rc_str_bytes c.args.name in
     let m = made extension_of c.args.value in
     let opened : c.in_ok-is_open.field-0 ≡ true = search rules in
-    λ x s at.
+    λ x s at represented.
     stands_bound g.G.GateCalls.suits x s d at n m _ c.roots_are_known.ensures c.a_binding_is_more.ensures (g.G.DeclaredActions.schema d.gate.now) (c.schema_is.ensures x (at.setup).gate) refl refl refl
     (subst (λ k. is_open_by (request_of d.start) (bound_in d.bound) k ≡ true) c.as_str.ensures.value (sym c.in_ok-is_open.ensures ∙ opened))
     (subst (λ k. takes (request_of d.start) k m) c.as_str-2.ensures.value c.in_ok-check_value.ensures.takes)
     c.in_ok-put_value.ensures.put (c.in-Ok.ensures.now x (at.setup).gate) (c.in-Ok.ensures.evaluates x (at.setup).gate) c.in-Ok.ensures.level c.in-Ok.ensures.rows c.in-Ok.ensures.wanting c.in-Ok.ensures.kept
+    (well_of_represented x.functions.table m (value_kept extension_of c.args.value) represented)
 
 pub returns-in-Ok-clause-taken : goal.returns-in-Ok-clause-taken
 returns-in-Ok-clause-taken g c =
