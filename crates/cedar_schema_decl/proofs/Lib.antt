@@ -5,3 +5,4 @@ mod Meant
 mod Resolving
 mod Told
 mod Variants
+mod Untold

@@ -12,6 +12,9 @@ abbrev pub undefined : TypeNotDefinedError → Option Conditional
 undefined OutOfMemory = None
 undefined (Undefined c) = Some (conditional_of c)
 
--- The name that the error tells is the outcome.
+-- The name that the error tells, if it tells one, is the outcome.
+abbrev pub RefusesBy : {B E : Type 0} → (E → Option Conditional) → Result B Conditional → E → Type 0
+RefusesBy tells o e = (c : Conditional) → tells e ≡ Some c → o ≡ Err c
+
 abbrev pub Refuses : {B : Type 0} → Result B Conditional → TypeNotDefinedError → Type 0
-Refuses o e = (c : Conditional) → undefined e ≡ Some c → o ≡ Err c
+Refuses o e = RefusesBy undefined o e

@@ -6,14 +6,14 @@ ghost use Rattle.cedar_expr_names.specs.Views.{name_of};
 ghost use Rattle.cedar_schema_decl.specs.Conditional.{conditional_of};
 ghost use Rattle.cedar_schema_decl.specs.Defined.{defined_of, resolving};
 ghost use Rattle.cedar_schema_decl.specs.Definitions.{common_form, commons_form, standard_written, entity_form, entities_form};
-ghost use Rattle.cedar_schema_decl.specs.Refusals.{Refuses};
+ghost use Rattle.cedar_schema_decl.specs.Refusals.{RefusesBy, Refuses};
 ghost use Rattle.cedar_schema_decl.specs.Requalified.{requalified, requalified_entity, under_name, where_there, each};
 ghost use Rattle.cedar_schema_decl.specs.Trees.{type_form};
 
 use crate::all_defs::AllDefs;
 use crate::err::TypeNotDefinedError;
 use crate::json_schema::{CommonType, RecordType, Type};
-use crate::requalify::{Requalify, requalify_names, requalify_record, requalify_type};
+use crate::requalify::{Requalify, append, requalify_names, requalify_record, requalify_type};
 use cedar_expr_leaves::{ConditionalName, NonEmpty, ReferenceType};
 use cedar_expr_names::InternalName;
 use std::alloc::{AllocError, Global};
@@ -59,9 +59,9 @@ fn requalify_common<R: Requalify>(
     alloc: Global,
     common: CommonType<R::From>,
     names: &R,
-) -> Result<CommonType<R::To>, TypeNotDefinedError>
+) -> Result<CommonType<R::To>, R::Fault>
     ensures made { IfOk result (λ r. requalified (R.renames names.now) (common_form R.before common) ≡ Ok (common_form R.after r)) }
-    ensures refused { IfErr result (Refuses (requalified (R.renames names.now) (common_form R.before common))) }
+    ensures refused { IfErr result (RefusesBy R.tells (requalified (R.renames names.now) (common_form R.before common))) }
 {
     let ty = requalify_type(alloc, &common.ty, names)?;
     Ok(CommonType {
@@ -76,13 +76,13 @@ pub fn requalify_commons<R: Requalify>(
     alloc: Global,
     commons: CommonTypeDefs<R::From>,
     names: &R,
-) -> Result<CommonTypeDefs<R::To>, TypeNotDefinedError>
+) -> Result<CommonTypeDefs<R::To>, R::Fault>
     ensures made { IfOk result (λ r. each (under_name (requalified (R.renames names.now))) (commons_form R.before commons) ≡ Ok (commons_form R.after r)) }
-    ensures refused { IfErr result (Refuses (each (under_name (requalified (R.renames names.now))) (commons_form R.before commons))) }
+    ensures refused { IfErr result (RefusesBy R.tells (each (under_name (requalified (R.renames names.now))) (commons_form R.before commons))) }
 {
     let mut defs = Vec::with_capacity(alloc, commons.defs.len())?;
     for (name, common) in commons.defs {
-        defs.push((name, requalify_common(alloc, common, names)?))?;
+        append(&mut defs, (name, requalify_common(alloc, common, names)?))?;
     }
     Ok(CommonTypeDefs { defs })
 }
@@ -92,9 +92,9 @@ fn requalify_optional<R: Requalify>(
     alloc: Global,
     ty: &Option<Type<R::From>>,
     names: &R,
-) -> Result<Option<Type<R::To>>, TypeNotDefinedError>
+) -> Result<Option<Type<R::To>>, R::Fault>
     ensures made { IfOk result (λ r. where_there (requalified (R.renames names.now)) (option_map (type_form R.before) ty.now) ≡ Ok (option_map (type_form R.after) r)) }
-    ensures refused { IfErr result (Refuses (where_there (requalified (R.renames names.now)) (option_map (type_form R.before) ty.now))) }
+    ensures refused { IfErr result (RefusesBy R.tells (where_there (requalified (R.renames names.now)) (option_map (type_form R.before) ty.now))) }
 {
     match ty {
         None => Ok(None),
@@ -114,9 +114,9 @@ pub fn requalify_standard<R: Requalify>(
     attributes: &RecordType<R::From>,
     tags: &Option<Type<R::From>>,
     names: &R,
-) -> Result<EntityTypeFragment<R::To>, TypeNotDefinedError>
+) -> Result<EntityTypeFragment<R::To>, R::Fault>
     ensures made { IfOk result (λ r. requalified_entity (R.renames names.now) (standard_written R.before parents.now attributes.now tags.now) ≡ Ok (entity_form R.after r)) }
-    ensures refused { IfErr result (Refuses (requalified_entity (R.renames names.now) (standard_written R.before parents.now attributes.now tags.now))) }
+    ensures refused { IfErr result (RefusesBy R.tells (requalified_entity (R.renames names.now) (standard_written R.before parents.now attributes.now tags.now))) }
 {
     let parents = requalify_names(alloc, parents, ReferenceType::Entity, names)?;
     let attributes = requalify_record(alloc, attributes, names)?;
@@ -134,9 +134,9 @@ fn requalify_entity<R: Requalify>(
     alloc: Global,
     entity: EntityTypeFragment<R::From>,
     names: &R,
-) -> Result<EntityTypeFragment<R::To>, TypeNotDefinedError>
+) -> Result<EntityTypeFragment<R::To>, R::Fault>
     ensures made { IfOk result (λ r. requalified_entity (R.renames names.now) (entity_form R.before entity) ≡ Ok (entity_form R.after r)) }
-    ensures refused { IfErr result (Refuses (requalified_entity (R.renames names.now) (entity_form R.before entity))) }
+    ensures refused { IfErr result (RefusesBy R.tells (requalified_entity (R.renames names.now) (entity_form R.before entity))) }
 {
     match entity {
         EntityTypeFragment::Standard {
@@ -158,13 +158,13 @@ pub fn requalify_entities<R: Requalify>(
     alloc: Global,
     entities: EntityTypesDef<R::From>,
     names: &R,
-) -> Result<EntityTypesDef<R::To>, TypeNotDefinedError>
+) -> Result<EntityTypesDef<R::To>, R::Fault>
     ensures made { IfOk result (λ r. each (under_name (requalified_entity (R.renames names.now))) (entities_form R.before entities) ≡ Ok (entities_form R.after r)) }
-    ensures refused { IfErr result (Refuses (each (under_name (requalified_entity (R.renames names.now))) (entities_form R.before entities))) }
+    ensures refused { IfErr result (RefusesBy R.tells (each (under_name (requalified_entity (R.renames names.now))) (entities_form R.before entities))) }
 {
     let mut defs = Vec::with_capacity(alloc, entities.defs.len())?;
     for (name, entity) in entities.defs {
-        defs.push((name, requalify_entity(alloc, entity, names)?))?;
+        append(&mut defs, (name, requalify_entity(alloc, entity, names)?))?;
     }
     Ok(EntityTypesDef { defs })
 }

@@ -1,6 +1,7 @@
 //! From names as they are written to names that may stand for one of several, and from these to what they mean.
 
-ghost use Rattle.std.specs.Prelude.{◌≡◌, IfOk, IfErr};
+ghost use Rattle.std.specs.Prelude.{◌≡◌, refl, None, IfOk, IfErr};
+ghost use Rattle.std.proofs.Common.{ap};
 ghost use Rattle.std.specs.declared.result.Result.TheVariants.{Ok};
 ghost use Rattle.cedar_expr_model.specs.Name.{Name};
 ghost use Rattle.cedar_expr_names.specs.Views.{name_of};
@@ -8,7 +9,7 @@ ghost use Rattle.cedar_expr_names.specs.Namespaces.{space_of};
 ghost use Rattle.cedar_expr_leaves.specs.Views.{raw_name_of};
 ghost use Rattle.cedar_schema_decl.specs.Conditional.{Conditional, conditional_of, qualifying};
 ghost use Rattle.cedar_schema_decl.specs.Defined.{defined_of, resolving};
-ghost use Rattle.cedar_schema_decl.specs.Refusals.{Refuses};
+ghost use Rattle.cedar_schema_decl.specs.Refusals.{undefined, Refuses};
 ghost use Rattle.cedar_schema_decl.specs.Requalified.{requalified, qualified_in};
 ghost use Rattle.cedar_schema_decl.specs.Trees.{type_form};
 
@@ -32,6 +33,8 @@ impl<'a> Requalify for Within<'a> {
 
     type To = ConditionalName;
 
+    type Fault = AllocError;
+
     ghost Before = { Name };
 
     ghost After = { Conditional };
@@ -42,14 +45,18 @@ impl<'a> Requalify for Within<'a> {
 
     ghost renames = { λ w. qualifying (space_of w.0) };
 
+    ghost tells = { λ f. None };
+
+    ghost memory_tells_none = { λ a f g. refl };
+
     fn requalify(
         &self,
         alloc: Global,
         name: &RawName,
         kind: ReferenceType,
-    ) -> Result<ConditionalName, TypeNotDefinedError> {
+    ) -> Result<ConditionalName, AllocError> {
         let name = name.clone()?;
-        Ok(name.conditionally_qualify_with(alloc, self.0, kind)?)
+        name.conditionally_qualify_with(alloc, self.0, kind)
     }
 }
 
@@ -57,6 +64,8 @@ impl Requalify for AllDefs {
     type From = ConditionalName;
 
     type To = InternalName;
+
+    type Fault = TypeNotDefinedError;
 
     ghost Before = { Conditional };
 
@@ -67,6 +76,10 @@ impl Requalify for AllDefs {
     ghost after = { name_of };
 
     ghost renames = { λ d. resolving (defined_of d) };
+
+    ghost tells = { undefined };
+
+    ghost memory_tells_none = { λ a f g. ap undefined g };
 
     fn requalify(
         &self,
@@ -88,10 +101,7 @@ impl Type<RawName> {
     ) -> Result<Type<ConditionalName>, AllocError>
         ensures { IfOk result (λ r. qualified_in (space_of namespace.entry) (type_form raw_name_of self) ≡ Ok (type_form conditional_of r)) }
     {
-        match requalify_type(alloc, &self, &Within(namespace)) {
-            Ok(ty) => Ok(ty),
-            Err(_) => Err(AllocError),
-        }
+        requalify_type(alloc, &self, &Within(namespace))
     }
 }
 

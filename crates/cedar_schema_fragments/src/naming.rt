@@ -20,7 +20,7 @@ ghost use Rattle.cedar_schema_fragments.specs.Written.{kind_form, principals_wri
 use crate::actions::{ActionFragment, ActionFragmentKind, ActionsDef, ValidatorApplySpec};
 use crate::err::FragmentError;
 use cedar_expr_leaves::{ConditionalName, NonEmpty, RawName, ReferenceType};
-use cedar_expr_names::{Eid, EntityType, EntityUID, Id, InternalName, Loc, Name};
+use cedar_expr_names::{Eid, EntityType, EntityUID, Id, InternalName, Loc, Name, NameError};
 use cedar_schema_decl::definitions::requalify_standard;
 use cedar_schema_decl::json_schema::{
     ActionEntityUID, ActionType, ActionTypeKind, ApplySpec, CommonType,
@@ -59,13 +59,23 @@ pub(crate) fn copied_space(space: &Option<InternalName>) -> Result<Option<Intern
     }
 }
 
+// The last name of the type of every action. Fails only when out of memory.
+fn action_word(alloc: Global) -> Result<Id, AllocError>
+    ensures { IfOk result (λ i. id_text i ≡ action_word) }
+{
+    match Id::from_normalized_str(alloc, "Action") {
+        Ok(word) => Ok(word),
+        Err(NameError::OutOfMemory) => Err(AllocError),
+        Err(NameError::NotNormalized | NameError::Reserved(_)) => unreachable!(),
+    }
+}
+
 // The type of the actions of a namespace. Refuses a reserved one.
 fn action_type(alloc: Global, namespace: Option<&InternalName>) -> Result<EntityType, FragmentError>
     ensures made { IfOk result (λ t. unreserved (full_name (space_of namespace.entry) action_word) ≡ Ok (type_name_of t)) }
     ensures refused { IfErr result (Refuses (unreserved (full_name (space_of namespace.entry) action_word))) }
 {
-    let word = Id::from_normalized_str(alloc, "Action").map_err(|_| FragmentError::OutOfMemory)?;
-    let name = full_name(alloc, namespace, word, None)?;
+    let name = full_name(alloc, namespace, action_word(alloc)?, None)?;
     match Name::try_from_internal(name) {
         Ok(name) => Ok(EntityType::from_name(name)),
         Err(reserved) => Err(FragmentError::ReservedName(reserved)),
@@ -81,10 +91,7 @@ fn names_in(
 ) -> Result<Vec<ConditionalName>, AllocError>
     ensures { IfOk result (λ r. map conditional_of r.items ≡ map (conditional_in (space_of namespace.entry) to_entity) (map raw_name_of names.now)) }
 {
-    match requalify_names(alloc, names, ReferenceType::Entity, &Within(namespace)) {
-        Ok(names) => Ok(names),
-        Err(_) => Err(AllocError),
-    }
+    requalify_names(alloc, names, ReferenceType::Entity, &Within(namespace))
 }
 
 // The type with what each name may stand for.
@@ -96,10 +103,7 @@ fn type_in(
 ) -> Result<Type<ConditionalName>, AllocError>
     ensures { IfOk result (λ r. type_form conditional_of r ≡ type_with (conditional_in (space_of namespace.entry)) (type_form raw_name_of ty.now)) }
 {
-    match requalify_type(alloc, ty, &Within(namespace)) {
-        Ok(ty) => Ok(ty),
-        Err(_) => Err(AllocError),
-    }
+    requalify_type(alloc, ty, &Within(namespace))
 }
 
 // A copy of ids, of which there is one at least.
@@ -123,10 +127,7 @@ fn standard_in(
 ) -> Result<EntityTypeFragment<ConditionalName>, AllocError>
     ensures { IfOk result (λ r. entity_form conditional_of r ≡ entity_with (conditional_in (space_of namespace.entry)) (standard_written raw_name_of parents.now attributes.now tags.now)) }
 {
-    match requalify_standard(alloc, parents, attributes, tags, &Within(namespace)) {
-        Ok(entity) => Ok(entity),
-        Err(_) => Err(AllocError),
-    }
+    requalify_standard(alloc, parents, attributes, tags, &Within(namespace))
 }
 
 // What is declared of an entity type, with what each name may stand for.
