@@ -36,7 +36,7 @@ pub mod level {
 
 /// Answers of typing, and facts.
 pub mod typecheck_answer {
-    pub use cedar_typechecker_answers::{Faults, TypeFault, TypecheckAnswer};
+    pub use cedar_typechecker_answers::{Faults, TypeFault, TypecheckAnswer, TypingErrorKind};
     pub use cedar_typechecker_environments::{Capability, CapabilitySet};
     pub use cedar_typechecker_operators::typecheck;
 }

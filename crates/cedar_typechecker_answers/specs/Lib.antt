@@ -3,3 +3,4 @@ pub mod Sequences
 pub mod Steps
 pub mod Surface
 pub mod Marked
+pub mod Kinds

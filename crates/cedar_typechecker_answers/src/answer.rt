@@ -8,11 +8,10 @@ ghost use Rattle.cedar_typechecker_model.specs.Typed.{noted};
 ghost use Rattle.cedar_typechecker_answers.specs.Marked.{kind_marks};
 ghost use Rattle.cedar_typechecker_answers.specs.Answers.{seen, judgement_seen};
 
-use crate::faults::{Faults, failed};
+use crate::faults::{Faults, TypingErrorKind, failed};
 use cedar_expr_names::Loc;
 use cedar_expr_trees::{Expr, ExprKind};
 use cedar_schema_types::Type;
-use cedar_store_parts::ValidationErrorKind;
 use cedar_typechecker_environments::CapabilitySet;
 use std::alloc::{AllocError, Global};
 
@@ -49,7 +48,7 @@ pub fn plain_node<'a>(
     kind: ExprKind<Option<Type>>,
     place: Option<Loc>,
     ty: Option<Type>,
-    wrong: ValidationErrorKind,
+    wrong: TypingErrorKind,
 ) -> Result<TypecheckAnswer<'a>, AllocError>
     ensures { IfOk result (λ a. seen a ≡ noted (kind_tree kind) (kind_marks kind) (plain (option_map type_of ty))) }
 {
@@ -68,7 +67,7 @@ pub fn judged_node<'a>(
     kind: ExprKind<Option<Type>>,
     place: Option<Loc>,
     judged: Option<Judged<'a>>,
-    wrong: ValidationErrorKind,
+    wrong: TypingErrorKind,
 ) -> Result<TypecheckAnswer<'a>, AllocError>
     ensures { IfOk result (λ a. seen a ≡ noted (kind_tree kind) (kind_marks kind) (option_map judgement_seen judged.entry)) }
 {

@@ -10,13 +10,12 @@ ghost use Rattle.cedar_typechecker_answers.specs.Answers.{seen, known_of_both, j
 ghost use Rattle.cedar_typechecker_answers.specs.Steps.{choice_step_seen};
 
 use crate::answer::{Judged, TypecheckAnswer, judged_node};
-use crate::faults::{Faults, failed, no_type};
+use crate::faults::{Faults, TypingErrorKind, failed, no_type};
 use crate::parts::shared_three;
 use crate::untyped;
 use cedar_expr_names::Loc;
 use cedar_expr_trees::{Expr, ExprKind};
 use cedar_schema_types::{BoolType, Type};
-use cedar_store_parts::ValidationErrorKind;
 use cedar_typechecker_environments::CapabilitySet;
 use std::alloc::{AllocError, Global};
 
@@ -93,11 +92,7 @@ pub fn choice_step<'a>(
         | Some(Type::Record { .. })
         | Some(Type::ExtensionType { .. })
         | None => {
-            failed(
-                faults,
-                ValidationErrorKind::UnexpectedType,
-                expr.source_loc(),
-            )?;
+            failed(faults, TypingErrorKind::UnexpectedType, expr.source_loc())?;
             Ok(ChoiceStep::Refused)
         }
     }
@@ -167,7 +162,7 @@ fn first_node<'a>(
     ensures { IfOk result (λ a. seen a ≡ noted (choice (tree_of test) (tree_of first) (tree_of second)) (three (marks_of test) (marks_of first) (marks_of second)) (branch_judged (data_of test) (data_of first) (facts_of known.entry))) }
 {
     let judged = branch_judgement(&test, &first, known)?;
-    let wrong = ValidationErrorKind::UnexpectedType;
+    let wrong = TypingErrorKind::UnexpectedType;
     choice_node(alloc, faults, place, test, first, second, judged, wrong)
 }
 
@@ -211,7 +206,7 @@ fn second_node<'a>(
     ensures { IfOk result (λ a. seen a ≡ noted (choice (tree_of test) (tree_of first) (tree_of second)) (three (marks_of test) (marks_of first) (marks_of second)) (branch_judged (data_of test) (data_of second) (facts_of known.entry))) }
 {
     let judged = branch_judgement(&test, &second, known)?;
-    let wrong = ValidationErrorKind::UnexpectedType;
+    let wrong = TypingErrorKind::UnexpectedType;
     choice_node(alloc, faults, place, test, first, second, judged, wrong)
 }
 
@@ -241,7 +236,7 @@ pub fn choice_node<'a>(
     first: Expr<Option<Type>>,
     second: Expr<Option<Type>>,
     judged: Option<Judged<'a>>,
-    wrong: ValidationErrorKind,
+    wrong: TypingErrorKind,
 ) -> Result<TypecheckAnswer<'a>, AllocError>
     ensures { IfOk result (λ a. seen a ≡ noted (choice (tree_of test) (tree_of first) (tree_of second)) (three (marks_of test) (marks_of first) (marks_of second)) (option_map judgement_seen judged.entry)) }
 {

@@ -15,13 +15,12 @@ ghost use Rattle.cedar_typechecker_answers.specs.Answers.{seen, typed_at, judgem
 ghost use Rattle.cedar_typechecker_answers.specs.Steps.{goes_on_with, step_seen, true_where_true};
 
 use crate::answer::{Judged, TypecheckAnswer, judged_node};
-use crate::faults::{Faults, failed, no_type};
+use crate::faults::{Faults, TypingErrorKind, failed, no_type};
 use crate::parts::shared_two;
 use crate::untyped;
 use cedar_expr_names::Loc;
 use cedar_expr_trees::{Expr, ExprKind};
 use cedar_schema_types::{BoolType, Type};
-use cedar_store_parts::ValidationErrorKind;
 use cedar_typechecker_environments::CapabilitySet;
 use std::alloc::{AllocError, Global};
 
@@ -83,7 +82,7 @@ pub fn and_step<'a>(
         | Some(Type::Record { .. })
         | Some(Type::ExtensionType { .. })
         | None => {
-            let kind = ValidationErrorKind::UnexpectedType;
+            let kind = TypingErrorKind::UnexpectedType;
             Ok(Step::Done(failed(faults, kind, expr.source_loc())?))
         }
     }
@@ -117,13 +116,7 @@ fn and_node<'a>(
 {
     let (left, right) = shared_two(alloc, left, right)?;
     let kind = ExprKind::And { left, right };
-    judged_node(
-        faults,
-        kind,
-        place,
-        judged,
-        ValidationErrorKind::UnexpectedType,
-    )
+    judged_node(faults, kind, place, judged, TypingErrorKind::UnexpectedType)
 }
 
 /// The answer of a conjunction by those of both sides.
@@ -278,7 +271,7 @@ pub fn or_step<'a>(
         | Some(Type::Record { .. })
         | Some(Type::ExtensionType { .. })
         | None => {
-            let kind = ValidationErrorKind::UnexpectedType;
+            let kind = TypingErrorKind::UnexpectedType;
             Ok(Step::Done(failed(faults, kind, expr.source_loc())?))
         }
     }
@@ -329,13 +322,7 @@ fn or_node<'a>(
 {
     let (left, right) = shared_two(alloc, left, right)?;
     let kind = ExprKind::Or { left, right };
-    judged_node(
-        faults,
-        kind,
-        place,
-        judged,
-        ValidationErrorKind::UnexpectedType,
-    )
+    judged_node(faults, kind, place, judged, TypingErrorKind::UnexpectedType)
 }
 
 /// The answer of a disjunction by those of both sides.

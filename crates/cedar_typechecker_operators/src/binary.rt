@@ -19,9 +19,8 @@ use cedar_expr_leaves::BinaryOp;
 use cedar_expr_names::Loc;
 use cedar_expr_trees::{Expr, ExprKind};
 use cedar_schema_types::Type;
-use cedar_store_parts::ValidationErrorKind;
 use cedar_typechecker_answers::{
-    Faults, Judged, TypecheckAnswer, judged_node, no_type, shared_two,
+    Faults, Judged, TypecheckAnswer, TypingErrorKind, judged_node, no_type, shared_two,
 };
 use cedar_typechecker_environments::{Capability, CapabilitySet, TypingSchema, World};
 use cedar_typechecker_rules::{
@@ -110,15 +109,15 @@ fn operands_judgement<'a, S: TypingSchema>(
 }
 
 // What is wrong where an operator has no type.
-fn wrong(op: BinaryOp) -> ValidationErrorKind {
+fn wrong(op: BinaryOp) -> TypingErrorKind {
     match op {
-        BinaryOp::Eq | BinaryOp::Contains => ValidationErrorKind::IncompatibleTypes,
-        BinaryOp::ContainsAll | BinaryOp::ContainsAny => ValidationErrorKind::IncompatibleTypes,
-        BinaryOp::GetTag => ValidationErrorKind::UnsafeTagAccess,
-        BinaryOp::Less | BinaryOp::LessEq => ValidationErrorKind::UnexpectedType,
+        BinaryOp::Eq | BinaryOp::Contains => TypingErrorKind::IncompatibleTypes,
+        BinaryOp::ContainsAll | BinaryOp::ContainsAny => TypingErrorKind::IncompatibleTypes,
+        BinaryOp::GetTag => TypingErrorKind::UnsafeTagAccess,
+        BinaryOp::Less | BinaryOp::LessEq => TypingErrorKind::UnexpectedType,
         BinaryOp::Add | BinaryOp::Sub | BinaryOp::Mul | BinaryOp::Rem =>
-            ValidationErrorKind::UnexpectedType,
-        BinaryOp::In | BinaryOp::HasTag => ValidationErrorKind::UnexpectedType,
+            TypingErrorKind::UnexpectedType,
+        BinaryOp::In | BinaryOp::HasTag => TypingErrorKind::UnexpectedType,
     }
 }
 

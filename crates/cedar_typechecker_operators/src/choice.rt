@@ -12,8 +12,9 @@ ghost use Rattle.cedar_typechecker_operators.specs.Choices.{chosen_judged, chose
 use cedar_expr_names::Loc;
 use cedar_expr_trees::Expr;
 use cedar_schema_types::Type;
-use cedar_store_parts::ValidationErrorKind;
-use cedar_typechecker_answers::{Faults, Judged, TypecheckAnswer, choice_node, no_type};
+use cedar_typechecker_answers::{
+    Faults, Judged, TypecheckAnswer, TypingErrorKind, choice_node, no_type,
+};
 use cedar_typechecker_environments::{CapabilitySet, TypingSchema, World};
 use cedar_typechecker_rules::chosen_type;
 use std::alloc::{AllocError, Global};
@@ -78,7 +79,7 @@ fn chosen_of<'a>(
                 ..
             },
         ) => {
-            let wrong = ValidationErrorKind::IncompatibleTypes;
+            let wrong = TypingErrorKind::IncompatibleTypes;
             choice_node(alloc, faults, place, test, first, second, judged, wrong)
         }
         _ => Ok(no_type()),

@@ -13,8 +13,7 @@ ghost use Rattle.cedar_typechecker_answers.specs.Answers.{seen};
 use cedar_expr_leaves::{Literal, SlotId, Var};
 use cedar_expr_names::Loc;
 use cedar_expr_trees::ExprKind;
-use cedar_store_parts::ValidationErrorKind;
-use cedar_typechecker_answers::{Faults, TypecheckAnswer, plain_node};
+use cedar_typechecker_answers::{Faults, TypecheckAnswer, TypingErrorKind, plain_node};
 use cedar_typechecker_environments::{TypingSchema, World};
 use cedar_typechecker_rules::{literal_type, slot_type, var_type};
 use std::alloc::{AllocError, Global};
@@ -37,7 +36,7 @@ pub fn literal_answer<'a, S: TypingSchema>(
         kind,
         place,
         ty,
-        ValidationErrorKind::UnexpectedType,
+        TypingErrorKind::UnexpectedType,
     )
 }
 
@@ -52,7 +51,7 @@ pub fn variable_answer<'a, S: TypingSchema>(
     ensures { IfOk result (λ a. seen a ≡ typed (setting_of S.schema S.table world.now) no_facts (var (var_of v))) }
 {
     let ty = var_type(alloc, world, v)?;
-    let wrong = ValidationErrorKind::UnexpectedType;
+    let wrong = TypingErrorKind::UnexpectedType;
     plain_node(alloc, faults, ExprKind::Var(v), place, Some(ty), wrong)
 }
 
@@ -67,6 +66,6 @@ pub fn slot_answer<'a, S: TypingSchema>(
     ensures { IfOk result (λ a. seen a ≡ typed (setting_of S.schema S.table world.now) no_facts (slot (slot_of s))) }
 {
     let ty = slot_type(alloc, world, s)?;
-    let wrong = ValidationErrorKind::UnexpectedType;
+    let wrong = TypingErrorKind::UnexpectedType;
     plain_node(alloc, faults, ExprKind::Slot(s), place, Some(ty), wrong)
 }

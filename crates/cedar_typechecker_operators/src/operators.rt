@@ -22,9 +22,8 @@ use cedar_expr_leaves::{Pattern, UnaryOp};
 use cedar_expr_names::{EntityType, Loc};
 use cedar_expr_trees::{Expr, ExprKind};
 use cedar_schema_types::{BoolType, Type};
-use cedar_store_parts::ValidationErrorKind;
 use cedar_typechecker_answers::{
-    Faults, Judged, TypecheckAnswer, judged_node, no_type, plain_node,
+    Faults, Judged, TypecheckAnswer, TypingErrorKind, judged_node, no_type, plain_node,
 };
 use cedar_typechecker_environments::{Capability, CapabilitySet, TypingSchema, World};
 use cedar_typechecker_rules::{get_type, has_type, is_type_type, like_type, unary_type};
@@ -60,7 +59,7 @@ pub fn unary_answer<'a>(
         kind,
         place,
         ty,
-        ValidationErrorKind::UnexpectedType,
+        TypingErrorKind::UnexpectedType,
     )
 }
 
@@ -102,7 +101,7 @@ fn like_node<'a>(
     let pattern = pattern.clone()?;
     let expr = Rc::new(alloc, expr)?;
     let kind = ExprKind::Like { expr, pattern };
-    let wrong = ValidationErrorKind::UnexpectedType;
+    let wrong = TypingErrorKind::UnexpectedType;
     plain_node(alloc, faults, kind, place, ty, wrong)
 }
 
@@ -144,7 +143,7 @@ fn is_node<'a>(
     let entity_type = kind.clone()?;
     let expr = Rc::new(alloc, expr)?;
     let kind = ExprKind::Is { expr, entity_type };
-    let wrong = ValidationErrorKind::UnexpectedType;
+    let wrong = TypingErrorKind::UnexpectedType;
     plain_node(alloc, faults, kind, place, ty, wrong)
 }
 
@@ -186,7 +185,7 @@ fn get_node<'a>(
 ) -> Result<TypecheckAnswer<'a>, AllocError>
     ensures { IfOk result (λ a. seen a ≡ noted (get_attr (tree_of expr) (rc_str_bytes attr.now)) (one (marks_of expr)) (plain (option_map type_of ty))) }
 {
-    let wrong = ValidationErrorKind::UnsafeAttributeAccess(attr.clone()?);
+    let wrong = TypingErrorKind::UnsafeAttributeAccess(attr.clone()?);
     let kind = get_kind(alloc, expr, attr)?;
     plain_node(alloc, faults, kind, place, ty, wrong)
 }
@@ -268,13 +267,7 @@ fn has_node<'a>(
     let attr = attr.clone()?;
     let expr = Rc::new(alloc, expr)?;
     let kind = ExprKind::HasAttr { expr, attr };
-    judged_node(
-        faults,
-        kind,
-        place,
-        judged,
-        ValidationErrorKind::UnexpectedType,
-    )
+    judged_node(faults, kind, place, judged, TypingErrorKind::UnexpectedType)
 }
 
 // The judgement of the test that the expression, which is of this type, has the attribute.

@@ -21,8 +21,9 @@ use cedar_expr_leaves::NonEmpty;
 use cedar_expr_names::Loc;
 use cedar_expr_trees::{Expr, ExprKind};
 use cedar_schema_types::{BoolType, Type};
-use cedar_store_parts::ValidationErrorKind;
-use cedar_typechecker_answers::{Faults, Judged, TypecheckAnswer, judged_node, no_type};
+use cedar_typechecker_answers::{
+    Faults, Judged, TypecheckAnswer, TypingErrorKind, judged_node, no_type,
+};
 use cedar_typechecker_environments::{Capability, CapabilitySet, TypingSchema, World};
 use cedar_typechecker_rules::step_type;
 use std::alloc::{AllocError, Global};
@@ -54,13 +55,7 @@ pub fn path_answer<'a, S: TypingSchema>(
     let attrs = path.clone()?;
     let expr = Rc::new(alloc, expr)?;
     let kind = ExprKind::ExtHasAttr { expr, attrs };
-    judged_node(
-        faults,
-        kind,
-        place,
-        judged,
-        ValidationErrorKind::UnexpectedType,
-    )
+    judged_node(faults, kind, place, judged, TypingErrorKind::UnexpectedType)
 }
 
 // The way along a path that is gone: the expression that it has come to, the type of that, and the facts of the tests on the way, in

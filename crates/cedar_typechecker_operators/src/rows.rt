@@ -16,9 +16,8 @@ ghost use Rattle.cedar_typechecker_operators.specs.Rows.{type_at, row_found, req
 use cedar_expr_names::{Loc, Name};
 use cedar_expr_trees::Expr;
 use cedar_schema_types::{OpenTag, Type};
-use cedar_store_parts::ValidationErrorKind;
 use cedar_typechecker_answers::{
-    Faults, TypecheckAnswer, call_kind, no_type, plain_node, record_kind, set_kind,
+    Faults, TypecheckAnswer, TypingErrorKind, call_kind, no_type, plain_node, record_kind, set_kind,
 };
 use cedar_typechecker_environments::{TypingSchema, World};
 use cedar_typechecker_rules::{call_type, set_literal_type};
@@ -43,7 +42,7 @@ pub fn call_answer<'a, S: TypingSchema>(
     let Some(ty) = call_type_of(alloc, world, name, args, row.as_slice())? else {
         return Ok(no_type());
     };
-    let wrong = ValidationErrorKind::UnexpectedType;
+    let wrong = TypingErrorKind::UnexpectedType;
     let kind = call_kind(alloc, name.clone()?, row)?;
     plain_node(alloc, faults, kind, place, ty, wrong)
 }
@@ -81,9 +80,9 @@ pub fn set_answer<'a, S: TypingSchema>(
         return Ok(no_type());
     };
     let wrong = if row.is_empty() {
-        ValidationErrorKind::EmptySetForbidden
+        TypingErrorKind::EmptySetForbidden
     } else {
-        ValidationErrorKind::IncompatibleTypes
+        TypingErrorKind::IncompatibleTypes
     };
     let kind = set_kind(alloc, row)?;
     plain_node(alloc, faults, kind, place, ty, wrong)
@@ -139,7 +138,7 @@ pub fn record_answer<'a>(
     let tag = OpenTag::ClosedAttributes;
     let ty = Type::record_with_required_attributes(alloc, types, tag)?;
     let kind = record_kind(alloc, row)?;
-    let wrong = ValidationErrorKind::UnexpectedType;
+    let wrong = TypingErrorKind::UnexpectedType;
     plain_node(alloc, faults, kind, place, Some(ty), wrong)
 }
 

@@ -23,10 +23,9 @@ use cedar_expr_leaves::{BinaryOp, NonEmpty, Pattern, UnaryOp};
 use cedar_expr_names::{EntityType, Loc, Name};
 use cedar_expr_trees::{Expr, ExprKind};
 use cedar_schema_types::Type;
-use cedar_store_parts::ValidationErrorKind;
 use cedar_typechecker_answers::{
-    ChoiceStep, Faults, Step, TypecheckAnswer, and_answer, and_step, choice_step, failed,
-    first_answer, no_type, or_answer, or_step, second_answer,
+    ChoiceStep, Faults, Step, TypecheckAnswer, TypingErrorKind, and_answer, and_step, choice_step,
+    failed, first_answer, no_type, or_answer, or_step, second_answer,
 };
 use cedar_typechecker_environments::{CapabilitySet, TypingSchema, World};
 use std::alloc::{AllocError, Global};
@@ -50,7 +49,7 @@ pub fn typecheck<'a, S: TypingSchema>(
         ExprKind::Lit(literal) => literal_answer(alloc, world, faults, place, literal),
         ExprKind::Var(v) => variable_answer(alloc, world, faults, place, *v),
         ExprKind::Slot(s) => slot_answer(alloc, world, faults, place, *s),
-        ExprKind::Unknown(_) => failed(faults, ValidationErrorKind::UnexpectedType, place),
+        ExprKind::Unknown(_) => failed(faults, TypingErrorKind::UnexpectedType, place),
         ExprKind::If {
             test_expr,
             then_expr,

@@ -1,6 +1,6 @@
 -- What the check of a policy in an environment says.
 -- Rule: the acceptance rules; typing (docs/RULES.md).
-use Rattle.std.specs.Prelude.{◌≡◌, Bool, true, false, List, [], None, MatchOption}
+use Rattle.std.specs.Prelude.{◌≡◌, ◌&&◌, Bool, true, false, List, [], None, MatchOption}
 use Rattle.std.specs.List.{list_all}
 use Rattle.std.specs.Str.{bytes_eq}
 use Rattle.cedar_expr_model.specs.Lists.{is_nil}
@@ -8,6 +8,7 @@ use Rattle.cedar_expr_model.specs.Name.{Text}
 use Rattle.cedar_expr_model.specs.Tree.{Tree}
 use Rattle.cedar_store_parts.specs.Parts.{id_text}
 use Rattle.cedar_store_parts.specs.declared.diagnostics.ValidationError.{ValidationError}
+use Rattle.cedar_typechecker_answers.specs.Kinds.{is_typing_kind}
 use Rattle.cedar_typechecker_policies.specs.Conditions.{IsTypedAs, IsVerdictOf}
 use Rattle.cedar_typechecker_model.specs.Facts.{no_facts}
 use Rattle.cedar_typechecker_model.specs.Rules.{Setting}
@@ -18,9 +19,9 @@ use Rattle.cedar_typechecker_policies.specs.declared.check.PolicyCheck.TheVarian
 use Rattle.cedar_typechecker_policies.specs.declared.checked.Checked.{Checked}
 use Rattle.cedar_typechecker_model.specs.Typed.{typed}
 
--- whether the error is of the policy of this id
+-- whether the error is one of typing, of the policy of this id
 abbrev pub is_error_of : Text → ValidationError → Bool
-is_error_of id e = bytes_eq id (id_text e.policy_id)
+is_error_of id e = bytes_eq id (id_text e.policy_id) && is_typing_kind e.kind
 
 abbrev pub verdict_seen : PolicyCheck → Verdict
 verdict_seen (Success e) = success

@@ -7,8 +7,8 @@ ghost use Rattle.cedar_store_parts.specs.Parts.{id_text};
 ghost use Rattle.cedar_typechecker_policies.specs.Checks.{is_error_of};
 
 use cedar_expr_names::Loc;
-use cedar_store_parts::{PolicyID, ValidationError, ValidationErrorKind};
-use cedar_typechecker_answers::{Faults, TypeFault};
+use cedar_store_parts::{PolicyID, ValidationError};
+use cedar_typechecker_answers::{Faults, TypeFault, TypingErrorKind};
 use std::alloc::{AllocError, Global};
 
 // Puts the fault behind the errors, as one of the policy.
@@ -23,6 +23,7 @@ fn add_error(
 {
     let TypeFault { kind, source_loc } = fault;
     let policy_id = policy_id.clone()?;
+    let kind = kind.of_policy();
     errors.push(ValidationError {
         policy_id,
         source_loc,
@@ -57,7 +58,7 @@ pub(crate) fn errors_of(
     ensures policy { IfOk result (λ es. list_all (is_error_of (id_text policy_id.now)) es.items ≡ true) }
     ensures some { IfOk result (λ es. is_nil es.items ≡ false) }
 {
-    let kind = ValidationErrorKind::UnexpectedType;
+    let kind = TypingErrorKind::UnexpectedType;
     let last = faults.pop().unwrap_or(TypeFault { kind, source_loc });
     let mut errors = errors_by(alloc, policy_id, faults)?;
     add_error(&mut errors, policy_id, last)?;
