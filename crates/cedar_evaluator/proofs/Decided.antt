@@ -8,11 +8,13 @@ use Rattle.cedar_store_model.specs.World.{World}
 use Rattle.cedar_evaluator_model.specs.Members.{bounds_in_session, concretize, decision, decision_in_session, met_limit}
 use Rattle.cedar_evaluator_model.specs.Known.{known_world}
 use Rattle.cedar_evaluator_model.specs.Laws.{IsBound, IsReady, WithinLimit, as_concrete}
+use Rattle.cedar_evaluator_model.specs.OfLaws.WellMade.{AllAreValues}
 use Rattle.cedar_evaluator_model.specs.Response.{Response, response_of}
 use Rattle.cedar_evaluator_model.specs.ResponseLaws.{IsKept}
 use Rattle.cedar_evaluator_model.specs.Scope.{Scope}
 use Rattle.cedar_evaluator_model.proofs.Forced.{forbid_forces, permit_forces, no_permit_forces}
 use Rattle.cedar_evaluator_model.proofs.Limits.{none_met}
+use Rattle.cedar_evaluator_model.proofs.Represented.{all_well}
 use Rattle.cedar_evaluator_model.proofs.Residuals.Decisions.{given, bounds_hold}
 use Rattle.cedar_evaluator_model.proofs.Residuals.Kept.{keeps_satisfied}
 use Rattle.cedar_evaluator_model.proofs.Responses.{answers}
@@ -41,16 +43,16 @@ is_forced s n ps r o h same ready = record {
 
 pub is_decision : (r : Response) (o : Option Decision) → o ≡ decision r → IsDecision r o
 is_decision r o h = record {
-  given = λ s n ps same m w k d e. given s k.agrees k.made n ps d (sym (decides r (response_of s n ps) o h same (ap met_limit (sym same) ∙ m)) ∙ e) w k.completes k.fits;
+  given = λ s n ps same m v w k d e. given s k.agrees (all_well s v k.represented) n ps d (sym (decides r (response_of s n ps) o h same (ap met_limit (sym same) ∙ m)) ∙ e) w k.completes k.fits;
   owed = λ s n ps same ready. is_forced s n ps r o h same ready;
 }
 
 -- what a response to policies of distinct ids says in a completion
-pub holds_in : (s : Scope) (n : ℕ) (ps : List Policy) → AreDistinct (ids ps) → (r : Response) → r ≡ response_of s n ps → (w : World) → IsCompletionFor w s ps → HoldsIn w ps r
-holds_in s n ps d r same w k = record {
-  decides = λ m e h. given s k.agrees k.made n ps e (sym (decides r (response_of s n ps) (decision r) refl same (ap met_limit (sym same) ∙ m)) ∙ h) w k.completes k.fits;
-  bounds = λ b h. bounds_hold s k.agrees k.made n ps b (ap (bounds_in_session ps) (sym same) ∙ h) w k.completes k.fits;
-  keeps = λ m p h. subst (λ q. IsKept w q p) (sym same) (keeps_satisfied s k.agrees k.made n ps d (ap met_limit (sym same) ∙ m) w k.completes k.fits p h);
+pub holds_in : (s : Scope) (n : ℕ) (ps : List Policy) → AreDistinct (ids ps) → (r : Response) → r ≡ response_of s n ps → AllAreValues s → (w : World) → IsCompletionFor w s ps → HoldsIn w ps r
+holds_in s n ps d r same v w k = let made = all_well s v k.represented in record {
+  decides = λ m e h. given s k.agrees made n ps e (sym (decides r (response_of s n ps) (decision r) refl same (ap met_limit (sym same) ∙ m)) ∙ h) w k.completes k.fits;
+  bounds = λ b h. bounds_hold s k.agrees made n ps b (ap (bounds_in_session ps) (sym same) ∙ h) w k.completes k.fits;
+  keeps = λ m p h. subst (λ q. IsKept w q p) (sym same) (keeps_satisfied s k.agrees made n ps d (ap met_limit (sym same) ∙ m) w k.completes k.fits p h);
 }
 
 -- where nothing is unknown and everything is loaded the answer is that by what the policies mean

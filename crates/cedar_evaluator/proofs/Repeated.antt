@@ -1,25 +1,30 @@
 -- What reauthorizing makes, step by step, and what it keeps by the laws.
 use Rattle.std.proofs.Common.{◌≡◌, ℕ, Bool, true, false, List, Option, Some, None, refl, sym, ap, ◌∙◌, subst, if◌then◌else◌}
 use Rattle.std.specs.Option.{option_map_or}
-use Rattle.std.specs.Prelude.{is_none, Result, Ok, Err, IfOk, IsErrAnd}
+use Rattle.std.specs.Prelude.{is_none, Result, Ok, Err, IfOk, IfSome, IsErrAnd}
 use Rattle.std.specs.Str.{bytes_eq}
+use Rattle.cedar_expr_model.specs.Canonical.{is_canonical}
+use Rattle.cedar_expr_model.specs.Made.{bare}
 use Rattle.cedar_expr_model.specs.Name.{Text}
 use Rattle.cedar_expr_model.specs.Repeats.{repeated}
 use Rattle.cedar_expr_model.specs.Substitution.{Bindings}
 use Rattle.cedar_store_model.specs.Answer.{ids}
 use Rattle.cedar_store_model.specs.Policy.{Policy}
+use Rattle.cedar_store_model.specs.World.{World}
 use Rattle.cedar_evaluator_model.specs.Members.{all_residuals}
 use Rattle.cedar_evaluator_model.specs.Reauthorize.{Outcome, makes_it, refuses, Refusal, repeated_id, and_next, distinct, request_bound, reauthorized, resumed}
-use Rattle.cedar_evaluator_model.specs.ReauthorizeLaws.{Step}
+use Rattle.cedar_evaluator_model.specs.ReauthorizeLaws.{CompletesResponse, FitsStep, Step}
+use Rattle.cedar_evaluator_model.specs.OfLaws.WellMade.{IsContextCanonical, AllAreValues}
 use Rattle.cedar_evaluator_model.specs.Response.{PartialRequest, Response, response_of}
 use Rattle.cedar_evaluator_model.specs.Scope.{Scope}
 use Rattle.cedar_evaluator_model.proofs.Again.{again_leaves_none, again_answers}
+use Rattle.cedar_evaluator_model.proofs.Represented.{all_well, value_well, context_well, context_represented}
 use Rattle.cedar_evaluator_model.proofs.Residuals.Chains.{parts_of, reauthorizing_completes, reauthorizing_decides, reauthorizing_keeps}
 use Rattle.cedar_store_parts.specs.Parts.{id_text}
 use Rattle.cedar_store_policies.specs.SetRefusals.{RefusesIds}
 use Rattle.cedar_store_parts.specs.declared.err.PolicySetError.{PolicySetError}
 use Rattle.cedar_store_parts.specs.declared.err.PolicySetError.TheVariants as adding
-use Rattle.cedar_evaluator.specs.Again.{IsAgain}
+use Rattle.cedar_evaluator.specs.Again.{IsAgain, FitsAgain, CompletesLeft}
 use Rattle.cedar_evaluator_contexts.specs.Refusals.{is_request_memory, refusal_or}
 use Rattle.cedar_evaluator.specs.Refusals.{as_reauthorization, is_again_memory, refused_or, set_refusal, Reauthorizes}
 use Rattle.cedar_evaluator.specs.Responses.{response_seen}
@@ -32,11 +37,32 @@ use Rattle.cedar_evaluator.specs.declared.partial_response.PartialResponse.{Part
 pub asked_again : (s : Scope) (n : ℕ) (env : Bindings) (r q : Response) → reauthorized s n env r ≡ makes_it q → request_bound s env r.request ≡ makes_it q.request
 asked_again s n env r q e = let p = (parts_of s n env r q e).1 in p.1 ∙ ap makes_it (sym (ap (λ (x : Response). x.request) p.2))
 
-pub is_again : (x : Step) (r q : Response) → reauthorized x.scope x.depth x.values r ≡ makes_it q → IsAgain x r q
-is_again x r q e = record {
-  completes = λ w f h. reauthorizing_completes w x f r q h e;
-  keeps = λ w f h. reauthorizing_keeps w x f r q h e;
-  decides = λ w f h. reauthorizing_decides w x f r q h e;
+-- Of values alone: the scope of a step, its values, and the context of a response.
+pub record AreOfValues (x : Step) (r : Response) : Type 0 where
+  pub scope : AllAreValues x.scope
+  pub bound : (n : Text) → IfSome (x.values n) (λ m. is_canonical (bare m) ≡ true)
+  pub context : IsContextCanonical r.request.context
+
+module _ (x : Step) (r : Response) (v : AreOfValues x r) (w : World) where
+  fits_step : FitsAgain w x → FitsStep w x
+  fits_step f = record {
+    agrees = f.agrees;
+    made = all_well x.scope v.scope f.represented;
+    completes = f.completes;
+    binds = record { means = f.means; made = λ n. value_well w.table (x.values n) (v.bound n) (f.bound n) };
+  }
+
+  completes_response : CompletesLeft w r → CompletesResponse w r
+  completes_response h = record { request = record { means = h.request; made = context_well w.table r.request.context v.context h.represented }; fits = h.fits }
+
+completes_left : (w : World) (q : Response) → CompletesResponse w q → CompletesLeft w q
+completes_left w q h = record { request = (h.request).means; represented = context_represented w.table q.request.context (h.request).made; fits = h.fits }
+
+pub is_again : (x : Step) (r q : Response) → AreOfValues x r → reauthorized x.scope x.depth x.values r ≡ makes_it q → IsAgain x r q
+is_again x r q v e = record {
+  completes = λ w f h. completes_left w q (reauthorizing_completes w x (fits_step x r v w f) r q (completes_response x r v w h) e);
+  keeps = λ w f h. reauthorizing_keeps w x (fits_step x r v w f) r q (completes_response x r v w h) e;
+  decides = λ w f h. reauthorizing_decides w x (fits_step x r v w f) r q (completes_response x r v w h) e;
   leaves_none = λ k. again_leaves_none x.scope x.depth x.values r q q.request (asked_again x.scope x.depth x.values r q e) e k.agrees k.known k.loaded k.bound;
   answers = λ k m. again_answers x.scope x.depth x.values r q q.request (asked_again x.scope x.depth x.values r q e) e k.agrees k.known k.loaded k.bound m;
 }
@@ -98,6 +124,6 @@ request_passed s n env r e (Err y) same d h = λ other m.
     ∙ ap (λ z. refuses (refused_or other z)) (sym same)
 
 -- what is made keeps the laws
-pub again_laws : (x : Step) (r : Response) (q : Result PartialResponse ReauthorizationError) → Reauthorizes (reauthorized x.scope x.depth x.values r) q → IfOk q (λ p. IsAgain x r (response_seen p))
-again_laws x r (Ok q) h = is_again x r (response_seen q) h
-again_laws x r (Err e) h = tt
+pub again_laws : (x : Step) (r : Response) (q : Result PartialResponse ReauthorizationError) → AreOfValues x r → Reauthorizes (reauthorized x.scope x.depth x.values r) q → IfOk q (λ p. IsAgain x r (response_seen p))
+again_laws x r (Ok q) v h = is_again x r (response_seen q) v h
+again_laws x r (Err e) v h = tt

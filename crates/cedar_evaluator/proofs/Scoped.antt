@@ -1,4 +1,4 @@
--- The scope of an evaluator that is made of a request, entities and a table.
+-- The scope of an evaluator that is made of a request, entities and a table; all that it knows is canonical.
 use Rattle.std.proofs.Common.{◌≡◌, List}
 use Rattle.cedar_expr_model.specs.Name.{Name}
 use Rattle.cedar_expr_model.specs.Substitution.{Bindings}
@@ -6,8 +6,10 @@ use Rattle.cedar_expr_model.specs.Table.{Table, Called}
 use Rattle.cedar_expr_model.specs.Value.{V}
 use Rattle.cedar_store_entities.specs.declared.entities.Entities.{Entities}
 use Rattle.cedar_store_model.specs.Policy.{binding_of, no_bindings}
+use Rattle.cedar_evaluator_model.specs.OfLaws.WellMade.{MakeValues, IsContextCanonical, AllAreValues}
 use Rattle.cedar_evaluator_model.specs.Response.{PartialRequest}
 use Rattle.cedar_evaluator_errors.specs.Calls.{Functions}
+use Rattle.cedar_evaluator_reads.proofs.Canonical.{store_canonical}
 use Rattle.cedar_evaluator_reads.specs.Scopes.{store_of}
 use Rattle.cedar_evaluator_core.specs.Evaluators.{asked_of, bound_in, entities_in, table_in, scope_in}
 use Rattle.cedar_evaluator_core.specs.declared.evaluator.Evaluator.{Evaluator}
@@ -27,3 +29,6 @@ scope_under table e t env q es asked bound over by_table fs = λ i. record {
   calls = fs.calls;
   store = store_of (over i);
 }
+
+pub values_for : {T : Type 0} (table : T → (Name → List V → Called) → Table) (t : T) (q : PartialRequest) (es : Entities) (fs : Functions) → IsContextCanonical q.context → MakeValues fs.calls → AllAreValues (scope_for table t q es fs)
+values_for table t q es fs context calls = record { context = context; values = λ n. tt; store = store_canonical es; calls = calls }

@@ -8,16 +8,16 @@ use Rattle.cedar_evaluator_model.specs.Laws.{IsUnsatisfied}
 use Rattle.cedar_evaluator_model.specs.Members.{Bounds, bounds_in_session, decision, met_limit}
 use Rattle.cedar_evaluator_model.specs.OfLaws.Calls.{Agrees}
 use Rattle.cedar_evaluator_model.specs.OfLaws.Completing.{Completes}
-use Rattle.cedar_evaluator_model.specs.OfLaws.WellMade.{AllMadeWell}
+use Rattle.cedar_evaluator_model.specs.OfLaws.WellMade.{AllRepresented}
 use Rattle.cedar_evaluator_model.specs.Response.{Response}
 use Rattle.cedar_evaluator_model.specs.ResponseLaws.{AreAmong, FitConditions, IsKept}
 use Rattle.cedar_evaluator_model.specs.Scope.{Scope}
 
 -- In this world everything is known, and it is as the scope says; the unknowns of the policies fit their annotations there. The scope's
--- calls answer as its table does, and its values are well made.
+-- calls answer as its table does, and of its extension values each is what its call gives.
 pub record IsCompletionFor (w : World) (s : Scope) (ps : List Policy) : Type 0 where
   pub agrees : Agrees s
-  pub made : AllMadeWell s
+  pub represented : AllRepresented s
   pub completes : Completes w s
   pub fits : FitConditions w ps
 

@@ -5,3 +5,4 @@ pub mod Nodes
 pub mod OneLevel
 pub mod Concluded
 pub mod Stood
+pub mod Canonical

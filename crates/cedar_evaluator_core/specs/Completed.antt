@@ -17,17 +17,17 @@ use Rattle.cedar_evaluator_model.specs.Known.{known_world}
 use Rattle.cedar_evaluator_model.specs.OfLaws.Calls.{Agrees}
 use Rattle.cedar_evaluator_model.specs.OfLaws.Completing.{Completes}
 use Rattle.cedar_evaluator_model.specs.OfLaws.Standing.{Errs, LeavesUnbound, MeansLike}
-use Rattle.cedar_evaluator_model.specs.OfLaws.WellMade.{AllMadeWell}
+use Rattle.cedar_evaluator_model.specs.OfLaws.WellMade.{AllRepresented}
 use Rattle.cedar_evaluator_model.specs.Scope.{Scope, Stop, fault}
 use Rattle.cedar_evaluator_errors.specs.Outcomes.{is_memory, stop_or}
 use Rattle.cedar_evaluator_errors.specs.declared.err.EvaluationError.{EvaluationError}
 use Rattle.cedar_evaluator_core.specs.Evaluators.{is_limit_error}
 
 -- In this world everything is known, and it is as the scope says; the expression's unknowns fit their annotations there. The scope's
--- calls answer as its table does, and its values are well made.
+-- calls answer as its table does, and of its extension values each is what its call gives.
 pub record IsCompletion (w : World) (s : Scope) (t : Tree) : Type 0 where
   pub agrees : Agrees s
-  pub made : AllMadeWell s
+  pub represented : AllRepresented s
   pub completes : Completes w s
   pub fits : FitsAnnotations w t
 

@@ -20,6 +20,7 @@ use Rattle.cedar_expr_functions.specs.declared.extension.ExtensionOutputValue.Th
 use Rattle.cedar_expr_functions.specs.declared.err.CallFault.{CallFault}
 use Rattle.cedar_expr_functions.specs.declared.err.CallFault.TheVariants.{OutOfMemory, WrongNumArguments, ArgumentType, Fault}
 use Rattle.cedar_expr_functions.specs.declared.extensions.Extensions.{Extensions}
+use Rattle.cedar_evaluator_model.specs.OfLaws.WellMade.{MakeValues}
 use Rattle.cedar_evaluator_model.specs.Scope.{MadeCalled, makes, faults, leaves_unknown}
 
 -- A call's outcome is this answer, its value with the call that makes it. Out of memory is none, nor is a refusal of the arguments.
@@ -36,6 +37,7 @@ pub record IsMadeBy {B : _} {F : _} {g : _} (f : ExtensionFunction B F g) (answe
   pub agreeing : (a : Global) (xs : Bor (List (Value ExtValue))) (r : Result ExtensionOutputValue CallFault) → takes (function_signature f) (bare_values xs.now) ≡ true
       → MayAnswer f a xs r → IsAnswer (answers (map (made extension_of) xs.now)) r
 
--- Each function of the table does.
+-- Each function of the table does, and what the calls make are values.
 pub record AnswersMade {B : _} {F : _} {g : _} (t : Extensions B F g) (calls : Name → List Made → MadeCalled) : Type 0 where
+  pub values : MakeValues calls
   pub each : (f : ExtensionFunction B F g) → Contains (stored_in t) f → IsMadeBy f (calls (function_name f))

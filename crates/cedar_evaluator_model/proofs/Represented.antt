@@ -12,19 +12,16 @@ use Rattle.cedar_expr_model.specs.Value.{Vs}
 use Rattle.cedar_expr_model.specs.ValueParts.{Part, known_value}
 use Rattle.cedar_expr_model.proofs.Lists.{both_hold}
 use Rattle.cedar_expr_model.proofs.Sameness.{field_parts}
-use Rattle.cedar_store_model.specs.World.{Entity, held}
-use Rattle.cedar_evaluator_model.specs.Scope.{Context, closed}
-use Rattle.cedar_evaluator_model.specs.OfLaws.WellMade.{IsWellMade, IsPartMadeWell, IsContextMadeWell, IsFoundMadeWell, IsPartRepresented, IsContextRepresented, IsEntityRepresented}
+use Rattle.cedar_expr_model.specs.Uid.{Uid}
+use Rattle.cedar_store_model.specs.World.{Entity, Found, held}
+use Rattle.cedar_evaluator_model.specs.Scope.{Scope, Context, closed}
+use Rattle.cedar_evaluator_model.specs.OfLaws.WellMade.{IsWellMade, IsPartMadeWell, IsContextMadeWell, IsFoundMadeWell, IsPartRepresented, IsContextRepresented, IsEntityRepresented, IsFoundRepresented, IsEntityCanonical, IsFoundCanonical, IsContextCanonical, AllMadeWell, AllRepresented, AllAreValues}
 
 abbrev Any : Vs → Type 0
 Any vs = Unit {0}
 
 abbrev Rise : Vs → Type 0
 Rise vs = are_rising vs ≡ true
-
--- a part that is a value is canonical
-abbrev pub IsPartCanonical : Option (Part Made) → Type 0
-IsPartCanonical found = IfSome (option_and_then known_value found) (λ m. is_canonical (bare m) ≡ true)
 
 module _ (x : Table) where
   mutual
@@ -57,7 +54,7 @@ module _ (x : Table) where
     fields_represented no_made_fields r = tt
     fields_represented (made_field a m fs) r = (represented_of_well m r.0, fields_represented fs r.1)
 
-  value_well : (o : Option Made) → IfSome o (λ m. is_canonical (bare m) ≡ true) → IfSome o (IsRepresented x) → IfSome o (IsWellMade x)
+  pub value_well : (o : Option Made) → IfSome o (λ m. is_canonical (bare m) ≡ true) → IfSome o (IsRepresented x) → IfSome o (IsWellMade x)
   value_well None h r = tt
   value_well (Some m) h r = well_of_represented m h r
 
@@ -65,9 +62,17 @@ module _ (x : Table) where
   value_represented None r = tt
   value_represented (Some m) r = represented_of_well m r
 
-  pub entity_well : (e : Entity Made) → ((a : Text) → IsPartCanonical (lookup (bytes_eq a) e.attributes)) → ((a : Text) → IsPartCanonical (lookup (bytes_eq a) e.tags)) → IsEntityRepresented x e → IsFoundMadeWell x (held e)
-  entity_well e ha ht r a =
-      (value_well (option_and_then known_value (lookup (bytes_eq a) e.attributes)) (ha a) (r a).0, value_well (option_and_then known_value (lookup (bytes_eq a) e.tags)) (ht a) (r a).1)
+  pub entity_well : (e : Entity Made) → IsEntityCanonical e → IsEntityRepresented x e → IsFoundMadeWell x (held e)
+  entity_well e h r a =
+      (value_well (option_and_then known_value (lookup (bytes_eq a) e.attributes)) (h.attributes a) (r a).0, value_well (option_and_then known_value (lookup (bytes_eq a) e.tags)) (h.tags a) (r a).1)
+
+  pub found_well : (f : Found Made) → IsFoundCanonical f → IsFoundRepresented x f → IsFoundMadeWell x f
+  found_well (held e) h r = entity_well e h r
+  found_well f h r = tt
+
+  pub context_well : (c : Context) → IsContextCanonical c → IsContextRepresented x c → IsContextMadeWell x c
+  context_well (closed fs) h r = well_of_represented (made_record fs) h r
+  context_well c h r = tt
 
   pub entity_represented : (e : Entity Made) → IsFoundMadeWell x (held e) → IsEntityRepresented x e
   entity_represented e r a =
@@ -76,3 +81,11 @@ module _ (x : Table) where
   pub context_represented : (c : Context) → IsContextMadeWell x c → IsContextRepresented x c
   context_represented (closed fs) r = represented_of_well (made_record fs) r
   context_represented c r = tt
+
+pub all_well : (s : Scope) → AllAreValues s → AllRepresented s → AllMadeWell s
+all_well s h r = record {
+  context = context_well s.table s.context h.context r.context;
+  values = λ n. value_well s.table (s.values n) (h.values n) (r.values n);
+  store = λ u. found_well s.table (s.store u) (h.store u) (r.store u);
+  calls = λ f ms m t e. well_of_represented s.table m (h.calls f ms m e) (r.calls f ms m t e);
+}

@@ -18,12 +18,16 @@ use Rattle.cedar_evaluator_model.specs.Members.{all_residuals, get, met_limit, d
 use Rattle.cedar_evaluator_model.specs.Reauthorize.{makes_it, reauthorized}
 use Rattle.cedar_evaluator_model.specs.ResponseLaws.{FitConditions, IsKept}
 
--- The world completes a request, and the values of its context are well made.
-pub record CompletesRequest (w : World) (q : PartialRequest) : Type 0 where
+-- In the world each part of a request means what it says there.
+pub record MeansRequest (w : World) (q : PartialRequest) : Type 0 where
   pub principal : EntryMeans w (codes "principal") q.principal w.principal
   pub action : EntryMeans w (codes "action") q.action w.action
   pub resource : EntryMeans w (codes "resource") q.resource w.resource
   pub context : ContextMeans w q.context w.context
+
+-- It completes a request, and the values of its context are well made.
+pub record CompletesRequest (w : World) (q : PartialRequest) : Type 0 where
+  pub means : MeansRequest w q
   pub made : IsContextMadeWell w.table q.context
 
 -- It completes what a response leaves open: its request, and the annotations of what is left of the policies fit.

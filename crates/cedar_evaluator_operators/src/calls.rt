@@ -46,6 +46,8 @@ impl FunctionTable for Extensions<'_> {
 
     ghost orders = { λ t answers. refl };
 
+    ghost makes_values = { λ t calls h. h.values };
+
     fn call(&self, alloc: Global, name: &Name, args: &[V]) -> Result<Left, EvaluationError> {
         match self.func(name) {
             Ok(f) => ask(alloc, f, args),

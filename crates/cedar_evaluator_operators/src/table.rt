@@ -10,6 +10,7 @@ ghost use Rattle.cedar_expr_model.specs.Tree.{long_core, extension_core};
 ghost use Rattle.cedar_expr_model.specs.Value.{V as ModelValue};
 ghost use Rattle.cedar_expr_values.specs.Extensions.{extension_of};
 ghost use Rattle.cedar_expr_values.specs.Values.{made};
+ghost use Rattle.cedar_evaluator_model.specs.OfLaws.WellMade.{MakeValues};
 ghost use Rattle.cedar_evaluator_model.specs.Scope.{MadeCalled};
 ghost use Rattle.cedar_evaluator_errors.specs.Outcomes.{Leaves};
 ghost use Rattle.cedar_evaluator_errors.specs.Calls.{called_by};
@@ -49,4 +50,7 @@ pub trait FunctionTable {
 
     /// However its functions answer, the table orders these types.
     ghost orders: { (t : Self) (answers : ModelName → List ModelValue → Called) → (table t answers).ordered ≡ ordered_types_in t };
+
+    /// What its functions make are values.
+    ghost makes_values: { (t : Self) (calls : ModelName → List Made → MadeCalled) → answers_as t calls → MakeValues calls };
 }

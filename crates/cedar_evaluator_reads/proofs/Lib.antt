@@ -3,3 +3,4 @@ pub mod Along
 pub mod Members
 pub mod Five
 pub mod Held
+pub mod Canonical

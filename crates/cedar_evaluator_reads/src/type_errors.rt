@@ -14,7 +14,7 @@ use crate::knowledge::V;
 use cedar_evaluator_errors::EvaluationError;
 use cedar_evaluator_errors::evaluation_errors::TypeError;
 use cedar_expr_leaves::NonEmpty;
-use cedar_expr_names::Name;
+use cedar_expr_names::{Name, NameError};
 use cedar_expr_values::{StaticallyTyped, Type};
 use std::alloc::{AllocError, Global};
 
@@ -22,7 +22,11 @@ use std::alloc::{AllocError, Global};
 pub fn any_entity_type(alloc: Global) -> Result<Name, AllocError>
     ensures { IfOk result (λ n. plain_name_of n ≡ any_entity) }
 {
-    Name::parse_unqualified_name(alloc, "any_entity_type").map_err(|_| AllocError)
+    match Name::parse_unqualified_name(alloc, "any_entity_type") {
+        Ok(name) => Ok(name),
+        Err(NameError::OutOfMemory) => Err(AllocError),
+        Err(NameError::NotNormalized | NameError::Reserved(_)) => unreachable!(),
+    }
 }
 
 // The type of any entity.

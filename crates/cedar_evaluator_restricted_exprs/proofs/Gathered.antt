@@ -26,7 +26,8 @@ use Rattle.cedar_expr_partial.specs.declared.partial_value.PartialValue.{Partial
 use Rattle.cedar_evaluator_model.specs.Scope.{Left, value_left, residual, stopped}
 use Rattle.cedar_evaluator_model.specs.Steps.{Pieces, pieces, halted, with_piece, from_pieces, tag_left, made_inserted, made_members}
 use Rattle.cedar_evaluator_model.specs.Evaluation.{pieces_of}
-use Rattle.cedar_evaluator_restricted_exprs.specs.Lefts.{left_seen, is_stopped, is_halted, Leaves, parts_of, ArePieces}
+use Rattle.cedar_evaluator_errors.specs.Outcomes.{left_seen}
+use Rattle.cedar_evaluator_restricted_exprs.specs.Lefts.{is_stopped, is_halted, Leaves, parts_of, ArePieces}
 use Rattle.cedar_evaluator_restricted_exprs.specs.Restricted.{are_restricted, have_restricted}
 use Rattle.cedar_evaluator_restricted_exprs.specs.declared.fault.RestrictedFault.{RestrictedFault}
 use Rattle.cedar_evaluator_restricted_exprs.specs.declared.fault.RestrictedFault.TheVariants.{Stopped}

@@ -17,16 +17,13 @@ use Rattle.cedar_expr_trees.specs.Trees.{tree_of, named, field_trees}
 use Rattle.cedar_expr_trees.specs.declared.expr.Expr.{Expr}
 use Rattle.cedar_expr_partial.specs.Parts.{part_of}
 use Rattle.cedar_expr_partial.specs.declared.partial_value.PartialValue.{PartialValue}
+use Rattle.cedar_evaluator_errors.specs.Outcomes.{left_seen}
 use Rattle.cedar_evaluator_model.specs.Scope.{Left, stopped}
-use Rattle.cedar_evaluator_model.specs.Steps.{Pieces, pieces, halted, tag_left}
+use Rattle.cedar_evaluator_model.specs.Steps.{Pieces, pieces, halted}
 use Rattle.cedar_evaluator_restricted_exprs.specs.declared.fault.RestrictedFault.{RestrictedFault}
 use Rattle.cedar_evaluator_restricted_exprs.specs.declared.fault.RestrictedFault.TheVariants.{Stopped}
 use Rattle.cedar_evaluator_restricted_exprs.specs.declared.value_parts.Parted.{Parted}
 use Rattle.cedar_evaluator_restricted_exprs.specs.declared.value_parts.Parted.TheVariants as parted
-
--- what a value, or an expression, is
-abbrev pub left_seen : PartialValue ExtValue → Left
-left_seen p = tag_left (part_of extension_of p)
 
 abbrev pub is_stopped : Left → Bool
 is_stopped (stopped s) = true

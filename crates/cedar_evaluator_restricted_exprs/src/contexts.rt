@@ -10,7 +10,7 @@ ghost use Rattle.cedar_evaluator_model.specs.Reauthorize.{context_from};
 ghost use Rattle.cedar_evaluator_model.specs.Scope.{value_left, residual};
 ghost use Rattle.cedar_evaluator_requests.specs.Views.{context_of};
 ghost use Rattle.cedar_evaluator_restricted_exprs.specs.Contexts.{IsOfRecord, IsContextOf};
-ghost use Rattle.cedar_evaluator_restricted_exprs.specs.Lefts.{left_seen};
+ghost use Rattle.cedar_evaluator_errors.specs.Outcomes.{left_seen};
 
 use crate::borrowed::BorrowedRestrictedExpr;
 use crate::table::{Left, V};

@@ -16,7 +16,7 @@ use Rattle.cedar_expr_partial.specs.declared.partial_value.PartialValue.{Partial
 use Rattle.cedar_expr_values.specs.declared.extension.ExtValue.{ExtValue}
 use Rattle.cedar_evaluator_restricted_exprs.proofs.OfRecord.{left_is_of_record}
 use Rattle.cedar_evaluator_restricted_exprs.specs.Contexts.{IsOfRecord}
-use Rattle.cedar_evaluator_restricted_exprs.specs.Lefts.{left_seen}
+use Rattle.cedar_evaluator_errors.specs.Outcomes.{left_seen}
 use Rattle.cedar_store_model.specs.World as world
 use Rattle.cedar_store_entities.specs.Views.{entity_uid, entity_pair}
 use Rattle.cedar_store_entities.specs.declared.entity.Entity.{Entity}

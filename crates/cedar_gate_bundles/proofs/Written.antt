@@ -28,7 +28,7 @@ use Rattle.cedar_gate_model.specs.RunsAnswer.{MakeFairly}
 use Rattle.cedar_gate_model.proofs.Reading.Bundles.{there_has}
 use Rattle.cedar_gate_model.proofs.Reading.Steps.{given_some, map_some, passing_some, beside_all, given_gives, map_gives, if_gives}
 use Rattle.cedar_gate_model.proofs.Reading.Values.{none_is, first_some}
-use Rattle.cedar_gate_model.proofs.Runs.WellMade.{evaluated_well}
+use Rattle.cedar_gate_model.proofs.Runs.WellMade.{makes_well, evaluated_well}
 use Rattle.cedar_gate_expressions.specs.Maps.{under_text}
 use Rattle.cedar_gate_bundles.specs.Written.{known_made, entity_read_made, AreWritten}
 
@@ -44,7 +44,7 @@ module _ (x : Functions) (fair : MakeFairly x) where
       let p = given_some (given (expression_read second d) (if_passing is_restricted)) (λ t. if_value (left_of_restricted x t)) m e in
       let q = given_some (expression_read second d) (if_passing is_restricted) p.0 p.1 in
       let r = passing_some is_restricted q.0 p.0 q.2 in
-      evaluated_well (with_functions x) (λ n. refl) fair.well 512 p.0 (none_is (offence p.0) (ap is_restricted r.1 ∙ r.0)) m (value_left_is (left_of_restricted x p.0) m p.2)
+      evaluated_well (with_functions x) (λ n. refl) (makes_well x fair) 512 p.0 (none_is (offence p.0) (ap is_restricted r.1 ∙ r.0)) m (value_left_is (left_of_restricted x p.0) m p.2)
 
   -- contexts
   context_left_well : (l : Left) → ((m : Made) → l ≡ value_left m → IsWellMade x.table m) → (c : Context) → context_from l ≡ Some c → IsContextMadeWell x.table c
@@ -57,7 +57,7 @@ module _ (x : Functions) (fair : MakeFairly x) where
       let p = given_some (given (fields_read second d) (λ gs. if_passing is_restricted (record_literal gs))) (λ t. context_from (left_of_restricted x t)) c e in
       let q = given_some (fields_read second d) (λ gs. if_passing is_restricted (record_literal gs)) p.0 p.1 in
       let r = passing_some is_restricted (record_literal q.0) p.0 q.2 in
-      context_left_well (left_of_restricted x p.0) (evaluated_well (with_functions x) (λ n. refl) fair.well 512 p.0 (none_is (offence p.0) (ap is_restricted r.1 ∙ r.0))) c p.2
+      context_left_well (left_of_restricted x p.0) (evaluated_well (with_functions x) (λ n. refl) (makes_well x fair) 512 p.0 (none_is (offence p.0) (ap is_restricted r.1 ∙ r.0))) c p.2
 
   abbrev unknown_word : List (Text × Context)
   unknown_word = (codes "unknown", unknown_context) ∷ []

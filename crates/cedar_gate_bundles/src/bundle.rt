@@ -4,7 +4,7 @@ ghost use Rattle.serde_json.specs.View.{view};
 ghost use Rattle.cedar_gate_model.specs.ReadingForms.{number_between};
 ghost use Rattle.cedar_gate_model.specs.ReadingBundle.{is_bundle, version_read, submission_read, bundle_read, input_read};
 ghost use Rattle.cedar_gate_model.specs.Bundle.{Functions};
-ghost use Rattle.cedar_gate_model.specs.RunsAnswer.{MakeFairly};
+ghost use Rattle.cedar_gate_model.specs.RunsAnswer.{AnswerFairly};
 ghost use Rattle.cedar_evaluator_restricted_exprs.specs.Answers.{AgreesWith};
 ghost use Rattle.cedar_evaluator_model.specs.OfLaws.WellMade.{IsContextMadeWell};
 ghost use Rattle.cedar_gate_bundles.specs.Bundles.{submission_of, bundle_of};
@@ -66,8 +66,8 @@ pub struct Bundle {
 pub fn read_input(alloc: Global, table: &Extensions<'_>, bytes: &[u8]) -> Result<Bundle, ReadFault>
     ensures ok { IfOk result (λ b. (x : Functions) → AgreesWith table.now x → input_read x bytes.now ≡ Some (bundle_of x b)) }
     ensures unreadable { IfErr result (λ f. f ≡ Unreadable → (x : Functions) → AgreesWith table.now x → input_read x bytes.now ≡ None) }
-    ensures context_written { IfOk result (λ b. (x : Functions) → AgreesWith table.now x → MakeFairly x → IsContextMadeWell x.table (request_of b.request).context) }
-    ensures store_written { IfOk result (λ b. (x : Functions) → AgreesWith table.now x → MakeFairly x → IsStoreWritten x.table b.store) }
+    ensures context_written { IfOk result (λ b. (x : Functions) → AgreesWith table.now x → AnswerFairly x → IsContextMadeWell x.table (request_of b.request).context) }
+    ensures store_written { IfOk result (λ b. (x : Functions) → AgreesWith table.now x → AnswerFairly x → IsStoreWritten x.table b.store) }
 {
     let value = read_json(alloc, bytes)?;
     read_bundle(alloc, table, &value)
@@ -84,8 +84,8 @@ pub fn read_bundle(
 ) -> Result<Bundle, ReadFault>
     ensures ok { IfOk result (λ b. (x : Functions) → AgreesWith table.now x → bundle_read x (view value.now) ≡ Some (bundle_of x b)) }
     ensures unreadable { IfErr result (λ f. f ≡ Unreadable → (x : Functions) → AgreesWith table.now x → bundle_read x (view value.now) ≡ None) }
-    ensures context_written { IfOk result (λ b. (x : Functions) → AgreesWith table.now x → MakeFairly x → IsContextMadeWell x.table (request_of b.request).context) }
-    ensures store_written { IfOk result (λ b. (x : Functions) → AgreesWith table.now x → MakeFairly x → IsStoreWritten x.table b.store) }
+    ensures context_written { IfOk result (λ b. (x : Functions) → AgreesWith table.now x → AnswerFairly x → IsContextMadeWell x.table (request_of b.request).context) }
+    ensures store_written { IfOk result (λ b. (x : Functions) → AgreesWith table.now x → AnswerFairly x → IsStoreWritten x.table b.store) }
 {
     if !is_bundle(value) {
         return Err(ReadFault::Unreadable);

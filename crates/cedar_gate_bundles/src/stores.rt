@@ -10,7 +10,7 @@ ghost use Rattle.cedar_evaluator_restricted_exprs.specs.Answers.{AgreesWith};
 ghost use Rattle.cedar_gate_model.specs.Bundle.{Functions};
 ghost use Rattle.cedar_gate_model.specs.Reading.{list_of};
 ghost use Rattle.cedar_gate_model.specs.ReadingRequest.{entity_read, store_read};
-ghost use Rattle.cedar_gate_model.specs.RunsAnswer.{MakeFairly};
+ghost use Rattle.cedar_gate_model.specs.RunsAnswer.{AnswerFairly};
 ghost use Rattle.cedar_gate_bundles.specs.Written.{entity_read_made, entity_pair_made, AreWritten, IsStoreWritten};
 ghost use Rattle.cedar_gate_expressions.specs.declared.fault.ReadFault.TheVariants.{Unreadable};
 
@@ -31,7 +31,7 @@ pub(crate) fn read_store(
 ) -> Result<Entities, ReadFault>
     ensures ok { IfOk result (λ s. (x : Functions) → AgreesWith table.now x → store_read x (view value.now) ≡ Some (store_seen s).entities) }
     ensures unreadable { IfErr result (λ f. f ≡ Unreadable → (x : Functions) → AgreesWith table.now x → store_read x (view value.now) ≡ None) }
-    ensures store_written { IfOk result (λ s. (x : Functions) → AgreesWith table.now x → MakeFairly x → IsStoreWritten x.table s) }
+    ensures store_written { IfOk result (λ s. (x : Functions) → AgreesWith table.now x → AnswerFairly x → IsStoreWritten x.table s) }
 {
     let entities = read_entities(alloc, table, value)?;
     match Entities::from_entities(alloc, entities) {
@@ -49,7 +49,7 @@ fn read_entities(
 ) -> Result<Vec<Entity>, ReadFault>
     ensures ok { IfOk result (λ es. (x : Functions) → AgreesWith table.now x → list_of (entity_read x) (view value.now) ≡ Some (map entity_pair es.items)) }
     ensures unreadable { IfErr result (λ f. f ≡ Unreadable → (x : Functions) → AgreesWith table.now x → list_of (entity_read x) (view value.now) ≡ None) }
-    ensures written { IfOk result (λ es. (x : Functions) → AgreesWith table.now x → MakeFairly x → AreWritten x.table (map entity_pair_made es.items)) }
+    ensures written { IfOk result (λ es. (x : Functions) → AgreesWith table.now x → AnswerFairly x → AreWritten x.table (map entity_pair_made es.items)) }
 {
     read_list(alloc, &StoredEntities, table, value)
 }

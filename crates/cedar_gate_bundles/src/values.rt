@@ -9,7 +9,7 @@ ghost use Rattle.cedar_expr_values.specs.Extensions.{extension_of};
 ghost use Rattle.cedar_expr_values.specs.Values.{made};
 ghost use Rattle.cedar_gate_model.specs.Bundle.{Functions};
 ghost use Rattle.cedar_gate_model.specs.ReadingValue.{left_of_restricted, value_read};
-ghost use Rattle.cedar_evaluator_restricted_exprs.specs.Lefts.{left_seen};
+ghost use Rattle.cedar_evaluator_errors.specs.Outcomes.{left_seen};
 ghost use Rattle.cedar_gate_bundles.specs.Values.{IsStopped};
 ghost use Rattle.cedar_gate_expressions.specs.declared.fault.ReadFault.TheVariants.{Unreadable};
 

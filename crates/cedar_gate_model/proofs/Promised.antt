@@ -22,7 +22,7 @@ module _ (may : RunsMayBe) (once : RunsAskOnce) (within : RunsAskInTheSlice) (ex
     (legal : ProperRunsAreLegal) (answered_legal : AnsweredRunsAreLegal) where
   answered_well : (c : Course) (es : List Entry) (a : Answer) → IsProper c → MayRun c es (answered a) → AnsweredWell c es a
   answered_well c es a proper run = record {
-    asked = exact (session_of c) c.submission.policies c.steps es a proper.context run;
+    asked = exact (session_of c) c.submission.policies c.steps es a proper.admitted.context run;
     answer = whole c es a run;
     early = λ d k. early c es a d proper run k;
     errors = λ e k. errors c es a e proper run k;
@@ -51,9 +51,9 @@ module _ (may : RunsMayBe) (once : RunsAskOnce) (within : RunsAskInTheSlice) (ex
   runs_keep c es end proper fair exact =
       let run = may c es end proper fair exact in
       record {
-        admitted = proper.accepted;
+        admitted = proper.admitted.accepted;
         once = once (session_of c) c.submission.policies c.steps es end run;
-        near = within (session_of c) c.submission.policies c.steps es end proper.context run;
+        near = within (session_of c) c.submission.policies c.steps es end proper.admitted.context run;
         few = few (session_of c) c.submission.policies c.steps es end run;
         owed = λ before after d is ready. owed c before after d end proper (subst (λ xs. MayRun c xs end) is run) ready;
         legal = legal_run c es end proper run;

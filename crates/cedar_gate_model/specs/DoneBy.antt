@@ -8,7 +8,7 @@ use Rattle.cedar_gate_model.specs.Did.{Did, Loaded}
 use Rattle.cedar_gate_model.specs.GateLaws.{asked_in}
 use Rattle.cedar_gate_model.specs.Headline.{IsNear, IsLegalSoFar, KeepsPromises}
 use Rattle.cedar_gate_model.specs.Runs.{answered, DecidesInPart}
-use Rattle.cedar_gate_model.specs.RunsAnswer.{Course, session_of, IsProper, MakeFairly, MayRun}
+use Rattle.cedar_gate_model.specs.RunsAnswer.{Course, session_of, IsAdmitted, IsProper, MakeFairly, MayRun}
 use Rattle.cedar_gate_model.specs.RunsAsk.{end_state}
 use Rattle.cedar_gate_model.specs.Session.{State, at_start, OpenRefusal, OpenFault, IsWantedList}
 use Rattle.cedar_gate_model.specs.Transcript.{Step, Entry}
@@ -40,7 +40,7 @@ MomentsKeep = (c : Course) (es : List Entry) (t : State) → IsProper c → Make
 
 -- What is wanted at a moment is near, and no uid of it was asked for before or stands in it twice.
 abbrev pub WantedIsNew : Type 0
-WantedIsNew = (c : Course) (es : List Entry) (t : State) (uids : List Uid) → IsProper c → CameTo c es t → IsWantedList (session_of c) t uids
+WantedIsNew = (c : Course) (es : List Entry) (t : State) (uids : List Uid) → IsAdmitted c → CameTo c es t → IsWantedList (session_of c) t uids
     → (HasTwice (asked_in es ++ uids) → ⊥) × ((u : Uid) → Contains uids u → IsNear c es u)
 
 -- The transcript of an answered run is legal with its answer, against each world that completes its end.

@@ -14,7 +14,7 @@ use Rattle.cedar_schema_model.specs.Conforming.{EntityConforms}
 use Rattle.cedar_gate_model.specs.GateLaws.{Holds}
 use Rattle.cedar_gate_model.specs.Owed.{IsForced}
 use Rattle.cedar_gate_model.specs.Runs.{IsKnownBy, DecidesInPart}
-use Rattle.cedar_gate_model.specs.RunsAnswer.{Course, session_of, IsProper, MakeFairly, IsReady, IsOpened, IsKnownStore}
+use Rattle.cedar_gate_model.specs.RunsAnswer.{Course, session_of, IsAdmitted, MakeFairly, IsReady, IsOpened, IsKnownStore}
 use Rattle.cedar_gate_model.specs.Session.{Setup, State, scope_now, known_now, world_now, MeetsLimit, HasOpenName, CompletesNow}
 
 -- what was answered conforms
@@ -30,7 +30,7 @@ pub record KeepsDecision (c : Course) (s : State) (d : Option Decision) : Type 0
 
 -- So does the decision of evaluating in part, in a session that opened, bound its names and took in what conforms.
 abbrev pub DecisionsAreKept : Type 0
-DecisionsAreKept = (c : Course) (s : State) (d : Option Decision) → IsProper c → MakeFairly c.functions → IsOpened (session_of c) s → AnsweredConform (session_of c) s
+DecisionsAreKept = (c : Course) (s : State) (d : Option Decision) → IsAdmitted c → MakeFairly c.functions → IsOpened (session_of c) s → AnsweredConform (session_of c) s
     → DecidesInPart (session_of c) c.submission.policies s d → KeepsDecision c s d
 
 -- the bounds that evaluating in part gives at a state, over a store of what is known
@@ -40,7 +40,7 @@ bounds_now c s store = bounds_in_session c.submission.policies (response_of (sco
 -- Bounds that are given hold in every completion of the state: what must determine the decision is among the reasons there, and the
 -- reasons are among what may.
 abbrev pub GivenBoundsHold : Type 0
-GivenBoundsHold = (c : Course) (s : State) (store : Uid → Found Made) → IsProper c → MakeFairly c.functions → IsOpened (session_of c) s → IsKnownStore c s store
+GivenBoundsHold = (c : Course) (s : State) (store : Uid → Found Made) → IsAdmitted c → MakeFairly c.functions → IsOpened (session_of c) s → IsKnownStore c s store
     → (b : Bounds) → bounds_now c s store ≡ Some b → (w : World) → CompletesNow (session_of c) s w → Holds (record { must = b.must; may = b.may }) w c.submission.policies
 
 -- everything is bound
@@ -49,7 +49,7 @@ AllIsBound c s = HasOpenName c.start s → ⊥
 
 -- then bounds are given
 abbrev pub BoundsAreOwed : Type 0
-BoundsAreOwed = (c : Course) (s : State) (store : Uid → Found Made) → IsProper c → IsOpened (session_of c) s → IsKnownStore c s store → AllIsBound c s → IsSome (bounds_now c s store)
+BoundsAreOwed = (c : Course) (s : State) (store : Uid → Found Made) → IsAdmitted c → IsOpened (session_of c) s → IsKnownStore c s store → AllIsBound c s → IsSome (bounds_now c s store)
 
 -- Each uid that a policy looks up over the whole store is known: a declared action, an entity that was answered, or missing.
 abbrev pub HoldsLookups : Course → State → Type 0
@@ -58,7 +58,7 @@ HoldsLookups c s = (p : Policy) (u : Uid) → Contains c.submission.policies p �
 
 -- then both bounds are the reasons of the answer, in policy order
 abbrev pub BoundsAreTheReasons : Type 0
-BoundsAreTheReasons = (c : Course) (s : State) (store : Uid → Found Made) → IsProper c → IsOpened (session_of c) s → IsKnownStore c s store → AllIsBound c s → HoldsLookups c s
+BoundsAreTheReasons = (c : Course) (s : State) (store : Uid → Found Made) → IsAdmitted c → IsOpened (session_of c) s → IsKnownStore c s store → AllIsBound c s → HoldsLookups c s
     → let rs = reasons_of (world_now (session_of c) s) c.submission.policies in bounds_now c s store ≡ Some (record { must = rs; may = rs })
 
 -- The bounds are those of evaluating the policies in part, by what is known.
@@ -73,4 +73,4 @@ pub record KeepsBounds (c : Course) (s : State) (b : Option Bounds) : Type 0 whe
   pub reasons : AllIsBound c s → HoldsLookups c s → let rs = reasons_of (world_now (session_of c) s) c.submission.policies in b ≡ Some (record { must = rs; may = rs })
 
 abbrev pub BoundsAreKept : Type 0
-BoundsAreKept = (c : Course) (s : State) (b : Option Bounds) → IsProper c → MakeFairly c.functions → IsOpened (session_of c) s → BoundsInPart c s b → KeepsBounds c s b
+BoundsAreKept = (c : Course) (s : State) (b : Option Bounds) → IsAdmitted c → MakeFairly c.functions → IsOpened (session_of c) s → BoundsInPart c s b → KeepsBounds c s b

@@ -4,7 +4,7 @@ use Rattle.std.specs.Prelude.{None}
 use Rattle.cedar_expr_model.specs.Uid.{Uid}
 use Rattle.cedar_store_model.specs.OfLaws.Extends.{KeepsFound, Extends}
 use Rattle.cedar_store_model.specs.World.{World}
-use Rattle.cedar_gate_model.specs.RunsAnswer.{Course, session_of, IsProper, IsOpened}
+use Rattle.cedar_gate_model.specs.RunsAnswer.{Course, session_of, IsAdmitted, IsOpened}
 use Rattle.cedar_gate_model.specs.Session.{Setup, State, known_now, CompletesNow}
 
 -- The declared actions, the loaded entities and the known absences are a partial store, which every completion of the state extends: what
@@ -18,4 +18,4 @@ without_slots w = record w { slots = λ z. None }
 
 -- So is all that is known in the session of a course: every completion knows it, and perhaps more.
 abbrev pub CompletionsKnowMore : Type 0
-CompletionsKnowMore = (c : Course) (s : State) (w : World) → IsProper c → IsOpened (session_of c) s → CompletesNow (session_of c) s w → Extends (known_now (session_of c) s) (without_slots w)
+CompletionsKnowMore = (c : Course) (s : State) (w : World) → IsAdmitted c → IsOpened (session_of c) s → CompletesNow (session_of c) s w → Extends (known_now (session_of c) s) (without_slots w)

@@ -9,6 +9,7 @@ use Rattle.cedar_expr_model.specs.Uid.{Uid, uid_eq}
 use Rattle.cedar_expr_model.specs.Made.{Made, bare}
 use Rattle.cedar_expr_model.specs.Table.{all_typed}
 use Rattle.cedar_expr_model.specs.OfLaws.Fair.{IsFair, IsTaken}
+use Rattle.cedar_expr_model.specs.OfLaws.Represented.{IsRepresented}
 use Rattle.cedar_expr_model.specs.Value.{V, truth_value}
 use Rattle.cedar_store_model.specs.World.{World, Entity, Found, missing}
 use Rattle.cedar_store_model.specs.Knowledge.{holds_values}
@@ -22,7 +23,7 @@ use Rattle.cedar_evaluator_model.specs.OfLaws.Calls.{Agrees}
 use Rattle.cedar_evaluator_model.specs.Known.{known_found}
 use Rattle.cedar_evaluator_model.specs.Members.{decision_in_session}
 use Rattle.cedar_evaluator_model.specs.Response.{PartialRequest, response_of}
-use Rattle.cedar_evaluator_model.specs.OfLaws.WellMade.{IsWellMade}
+use Rattle.cedar_evaluator_model.specs.OfLaws.WellMade.{IsWellMade, MakeValues}
 use Rattle.cedar_evaluator_model.specs.OfLaws.Completing as evaluator
 use Rattle.cedar_evaluator_model.specs.Completion.{PartIs}
 use Rattle.cedar_evaluator_model.specs.OfLaws.Completable.{is_free_name}
@@ -64,13 +65,17 @@ pub record AreFair (c : Course) : Type 0 where
   pub typed : all_typed c.submission.table ≡ true
   pub agrees : Agrees (with_functions c.functions)
 
--- The submission is accepted and the functions are fair; the context, the values that are bound and the store are as they are made.
-pub record IsProper (c : Course) : Type 0 where
+-- The submission is accepted and the functions are fair; the context is as it is made, and the store holds values alone.
+pub record IsAdmitted (c : Course) : Type 0 where
   pub accepted : IsAccepted c.submission
   pub fair : AreFair c
   pub context : IsMadeContext c.start.context
-  pub values : (b : Text × Made) → Contains (bindings_in c.steps) b → IsWellMade c.functions.table b.1
   pub store : (u : Uid) (e : Entity V) → c.store u ≡ Some e → holds_values e ≡ true
+
+-- Such a course binds values as they are made.
+pub record IsProper (c : Course) : Type 0 where
+  pub admitted : IsAdmitted c
+  pub values : (b : Text × Made) → Contains (bindings_in c.steps) b → IsWellMade c.functions.table b.1
 
 -- The entries and the end are those of a run of the course, which decides by evaluating in part.
 abbrev pub IsRun : Course → List Entry → End → Type 0
@@ -129,15 +134,21 @@ ProperRunsAreLegal = (c : Course) (es : List Entry) (end : End) → IsProper c �
 
 -- What evaluating in part gives: where it gives no decision, none is owed. The store is what is known of it, with the values as they are made.
 abbrev pub ForcedDecisionsAreGiven : Type 0
-ForcedDecisionsAreGiven = (c : Course) (s : State) (store : Uid → Found Made) → IsProper c → ((u : Uid) → known_found (store u) ≡ (known_now (session_of c) s).store u)
+ForcedDecisionsAreGiven = (c : Course) (s : State) (store : Uid → Found Made) → IsAdmitted c → ((u : Uid) → known_found (store u) ≡ (known_now (session_of c) s).store u)
     → decision_in_session (response_of (scope_now (session_of c) s store) c.submission.limit c.submission.policies) ≡ None → MayDecide (session_of c) c.submission.policies s None
 
--- Fair functions, each with a result type, whose calls answer as the table does, with values as they are written.
-pub record MakeFairly (x : Functions) : Type 0 where
+-- Fair functions, each with a result type, whose calls answer as the table does: each extension value in what they make is what its call
+-- gives.
+pub record AnswerFairly (x : Functions) : Type 0 where
   pub fair : IsFair x.table
   pub typed : all_typed x.table ≡ true
   pub agrees : Agrees (with_functions x)
-  pub well : (f : Name) (ms : List Made) (m : Made) → IsTaken x.table f (map bare ms) → x.calls f ms ≡ makes m → IsWellMade x.table m
+  pub represented : (f : Name) (ms : List Made) (m : Made) → IsTaken x.table f (map bare ms) → x.calls f ms ≡ makes m → IsRepresented x.table m
+
+-- Such functions make values.
+pub record MakeFairly (x : Functions) : Type 0 where
+  pub answers : AnswerFairly x
+  pub values : MakeValues x.calls
 
 -- each name was bound after those before it, without a refusal, to a value as it is written
 abbrev pub AreBound : Setup → List (Text × Made) → Type 0
@@ -164,19 +175,19 @@ ContextIsPossible x s given = (fs : TreeFields) → context_now x.functions s x.
 
 -- Then what a session's evaluation knows has a completion, whatever was bound and asked for by then.
 abbrev pub SessionsHaveCompletions : Type 0
-SessionsHaveCompletions = (c : Course) (s : State) (store : Uid → Found Made) (given : Text → V) → IsProper c → IsOpened (session_of c) s → IsKnownStore c s store
+SessionsHaveCompletions = (c : Course) (s : State) (store : Uid → Found Made) (given : Text → V) → IsAdmitted c → IsOpened (session_of c) s → IsKnownStore c s store
     → ((n : Text) → is_free_name n ≡ true → Keeps (option_map bare (value_of s n)) (Some (given n))) → ContextIsPossible (session_of c) s given
     → (w : World) × evaluator.Completes w (scope_now (session_of c) s store)
 
 -- For each world that completes the state of a session there is one that completes what its evaluation knows, with the same answer.
 abbrev pub SessionsAreCompleted : Type 0
-SessionsAreCompleted = (c : Course) (s : State) (store : Uid → Found Made) → IsProper c → MakeFairly c.functions → IsOpened (session_of c) s → IsKnownStore c s store
+SessionsAreCompleted = (c : Course) (s : State) (store : Uid → Found Made) → IsAdmitted c → MakeFairly c.functions → IsOpened (session_of c) s → IsKnownStore c s store
     → (w : World) → CompletesNow (session_of c) s w
     → (v : World) × evaluator.Completes v (scope_now (session_of c) s store) × (answer_of v c.submission.policies ≡ answer_of w c.submission.policies)
 
 -- A decision that evaluating in part gives is that of every completion of the state.
 abbrev pub EvaluatedDecisionsHold : Type 0
-EvaluatedDecisionsHold = (c : Course) (s : State) (store : Uid → Found Made) → IsProper c → MakeFairly c.functions → IsOpened (session_of c) s → IsKnownStore c s store
+EvaluatedDecisionsHold = (c : Course) (s : State) (store : Uid → Found Made) → IsAdmitted c → MakeFairly c.functions → IsOpened (session_of c) s → IsKnownStore c s store
     → (d : Decision) → decision_in_session (response_of (scope_now (session_of c) s store) c.submission.limit c.submission.policies) ≡ Some d → MayDecide (session_of c) c.submission.policies s (Some d)
 
 -- What evaluating in part decides, or that it decides nothing, may be given; so each run is one with decisions that may be given.

@@ -10,3 +10,4 @@ pub mod Stopped
 pub mod Asked
 pub mod Stored
 pub mod Appending
+pub mod Proper

@@ -152,7 +152,7 @@ stopped_once keep new c first asked es proper fair h = by_last h.last
         }
     by_last (inr (us, some, wanted, e)) =
         let keeps = keep c es h.state proper fair h.came in
-        let k = new c es h.state us proper h.came wanted in
+        let k = new c es h.state us proper.admitted h.came wanted in
         let all : asked_in es ++ us ≡ uids_in (rounds_of es ++ us ∷ []) = ap (λ z. z ++ us) (asked_rounds es) ∙ flat_map_more (λ z. z) [] (rounds_of es) us in
         record {
           lists = rounds_of es ++ us ∷ [];

@@ -8,7 +8,7 @@ use Rattle.cedar_schema_model.specs.BagLaws.{HasTwice}
 use Rattle.cedar_gate_model.specs.Did.{Loaded}
 use Rattle.cedar_gate_model.specs.DoneBy.{HasDone, CameTo}
 use Rattle.cedar_gate_model.specs.Headline.{IsNear}
-use Rattle.cedar_gate_model.specs.RunsAnswer.{Course, session_of, IsProper, MakeFairly}
+use Rattle.cedar_gate_model.specs.RunsAnswer.{Course, session_of, IsAdmitted, AnswerFairly}
 use Rattle.cedar_gate_model.specs.Session.{Setup, State, IsWantedList}
 use Rattle.cedar_gate_model.specs.Transcript.{Step, Entry}
 use Rattle.cedar_gate_runs.specs.Asking.{rounds_of, entries_done}
@@ -67,4 +67,4 @@ LastAsked c first asked (Err f) = AskedSoFar c first asked (entries_done f)
 -- What the host was asked for in a run of the course: of a proper one, no uid twice and only what is near.
 pub record AsksWell (c : Course) (first asked : List (List Uid)) (r : Result Transcript RunFault) : Type 0 where
   pub last : LastAsked c first asked r
-  pub once : IsProper c → MakeFairly c.functions → AsksOnce c first asked (entries_in r)
+  pub once : IsAdmitted c → AnswerFairly c.functions → AsksOnce c first asked (entries_in r)

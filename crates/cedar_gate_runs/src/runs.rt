@@ -3,7 +3,7 @@
 ghost use Rattle.std.specs.Prelude.{◌≡◌, ◌<◌, ◌++◌, true, [], ℕ, List, None, is_some, IfOk, IfErr, OnOk, OnErr};
 ghost use Rattle.cedar_evaluator_requests.specs.Views.{answer_of};
 ghost use Rattle.cedar_expr_model.specs.Uid.{Uid};
-ghost use Rattle.cedar_gate_model.specs.RunsAnswer.{Course, session_of, IsProper, MakeFairly};
+ghost use Rattle.cedar_gate_model.specs.RunsAnswer.{Course, session_of, IsAdmitted, AnswerFairly};
 ghost use Rattle.cedar_gate_model.specs.Session.{State, at_start, NothingIsWanted, OpenRefusal, OpenFault};
 ghost use Rattle.cedar_gate_runs.specs.Transcripts.{entries_of};
 ghost use Rattle.cedar_gate_runs.specs.Asking.{rounds_of, AskedRounds, IsBeyond, AskedBeyond, AskedBy, entries_done};
@@ -102,7 +102,7 @@ pub fn run_session<E: SessionCalls + Drop, H: Host>(
 ) -> Result<Transcript, RunFault>
     requires { H.faults host.old < u64.MAX }
     ensures run { (c : Course) → IsRunBy E.stands session steps.items H.honest H.store host.old c → IsRunOf c result }
-    ensures promises { (c : Course) → IsRunBy E.stands session steps.items H.honest H.store host.old c → IsProper c → MakeFairly c.functions → KeepsRun c result }
+    ensures promises { (c : Course) → IsRunBy E.stands session steps.items H.honest H.store host.old c → IsAdmitted c → AnswerFairly c.functions → KeepsRun c result }
     ensures host { HostSaw (H.asked host.old) (H.asked host.new) (H.faults host.old) (H.faults host.new) result }
     ensures asked { (c : Course) → IsRunBy E.stands session steps.items H.honest H.store host.old c → AsksWell c (H.asked host.old) (H.asked host.new) result }
     ensures answered { IfOk result (λ t. is_some t.answer ≡ true) }

@@ -8,6 +8,7 @@ ghost use Rattle.cedar_expr_values.specs.Extensions.{extension_of};
 ghost use Rattle.cedar_expr_values.specs.Values.{made};
 ghost use Rattle.cedar_store_model.specs.Answer.{answer_of as answer_meant};
 ghost use Rattle.cedar_evaluator_model.specs.Laws.{as_concrete};
+ghost use Rattle.cedar_evaluator_model.specs.OfLaws.WellMade.{MakeValues};
 ghost use Rattle.cedar_expr_model.specs.OfLaws.Represented.{IsRepresented};
 ghost use Rattle.cedar_evaluator_requests.specs.Views.{decision_of, answer_of};
 ghost use Rattle.cedar_gate_model.specs.Runs.{DecidesInPart, with_asked};
@@ -85,4 +86,7 @@ pub trait SessionCalls {
         ensures answer { IfOk result (λ r. (c : Course) (s : State) → stands c s self.now → answer_of r ≡ as_concrete (answer_meant (world_now (session_of c) s) c.submission.policies)) }
         ensures given { OnOk result ((c : Course) (s : State) → stands c s self.now → (f : AnswerRefusal) → AnswerFault (session_of c) s f → ⊥) }
         ensures refused { IfErr result (λ r. (c : Course) (s : State) → stands c s self.now → IsAnswerRefusal (session_of c) s r) };
+
+    /// The functions of its course make values.
+    ghost makes_values: { (c : Course) (s : State) (d : Self) → stands c s d → MakeValues c.functions.calls };
 }

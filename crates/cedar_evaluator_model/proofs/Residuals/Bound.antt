@@ -140,13 +140,15 @@ module _ (w : World) (s : Scope) (agrees : Agrees s) (well : AllMadeWell s) (com
       let r = made_next (entry_bound resource q.resource (env (codes "resource"))) _ b a.2 in
       let c = made_next (context_under s env q.context) _ b r.2 in
       let same : record { principal = p.0; action = a.0; resource = r.0; context = c.0 } ≡ b = cc in
-      let k = context_completes q.context c.0 w.context (h.context, h.made) c.1 in
+      let k = context_completes q.context c.0 w.context (h.means.context, h.made) c.1 in
       let done : CompletesRequest w (record { principal = p.0; action = a.0; resource = r.0; context = c.0 }) =
       record {
-        principal = entry_completes w (codes "principal") principal q.principal p.0 w.principal (env (codes "principal")) h.principal (binds.means (codes "principal")) p.1;
-        action = entry_completes w (codes "action") action q.action a.0 w.action (env (codes "action")) h.action (binds.means (codes "action")) a.1;
-        resource = entry_completes w (codes "resource") resource q.resource r.0 w.resource (env (codes "resource")) h.resource (binds.means (codes "resource")) r.1;
-        context = k.0;
+        means = record {
+          principal = entry_completes w (codes "principal") principal q.principal p.0 w.principal (env (codes "principal")) h.means.principal (binds.means (codes "principal")) p.1;
+          action = entry_completes w (codes "action") action q.action a.0 w.action (env (codes "action")) h.means.action (binds.means (codes "action")) a.1;
+          resource = entry_completes w (codes "resource") resource q.resource r.0 w.resource (env (codes "resource")) h.means.resource (binds.means (codes "resource")) r.1;
+          context = k.0;
+        };
         made = k.1;
       }
       in
@@ -157,10 +159,10 @@ module _ (w : World) (s : Scope) (agrees : Agrees s) (well : AllMadeWell s) (com
   resumed_completes b h =
       record {
         whole = complete.whole;
-        principal = h.principal;
-        action = h.action;
-        resource = h.resource;
-        context = h.context;
+        principal = h.means.principal;
+        action = h.means.action;
+        resource = h.means.resource;
+        context = h.means.context;
         slots = complete.slots;
         unknowns = binds.means;
         table = complete.table;

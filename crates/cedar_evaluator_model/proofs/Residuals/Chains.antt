@@ -67,7 +67,7 @@ module _ (w : World) (s : Scope) (agrees : Agrees s) (complete : Completes w s) 
   pub response_completed : CompletesResponse w (response_of s n ps)
   response_completed =
       let context = subst (λ x. IsContextMadeWell x s.context) (sym complete.table) well.context in
-      record { request = record { principal = complete.principal; action = complete.action; resource = complete.resource; context = complete.context; made = context }; fits = all_left_fit }
+      record { request = record { means = record { principal = complete.principal; action = complete.action; resource = complete.resource; context = complete.context }; made = context }; fits = all_left_fit }
 
   module _ (met : met_limit (response_of s n ps) ≡ false) where
     left_kept : (p : Policy) → Contains ps p → IsSatisfied w p ↔ IsSatisfied w (left_of s n ps p)

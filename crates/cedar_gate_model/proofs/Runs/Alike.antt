@@ -224,9 +224,9 @@ module _ (c : Course) (store : Uid → Option (Entity V)) (proper : IsProper c) 
       λ u h. same u (subst (λ z. InSlice x.schema x.level z u) (ends_are_the_courses c es a run) (near_kept (with_unknowns w) w (λ v k. k) (λ v y k. k) x.level u h.0, h.1)) in
       let agree : (u : Uid) → IsInReach x.schema x.level (with_unknowns w) u → other_store u ≡ (with_unknowns w).store u =
       λ u h. same_reach u (declares_action x.schema u) (as_entity x.schema u) (c.store u) (store u) (λ f. ⊎_elim (near u) (λ e. absurd (never (declares_action x.schema u) e f)) h) in
-      sym (clear (with_store w other_store) ps (leaves_nothing c proper) (none_has_unknowns c proper))
-      ∙ only_the_slice_answers c.submission (with_unknowns w) proper.accepted (at_end c proper es a run (λ stands opened nothing fine. fit c proper (end_state c.steps es) stands opened nothing fine)) other_store agree
-      ∙ clear w ps (leaves_nothing c proper) (none_has_unknowns c proper)
+      sym (clear (with_store w other_store) ps (leaves_nothing c proper.admitted) (none_has_unknowns c proper.admitted))
+      ∙ only_the_slice_answers c.submission (with_unknowns w) proper.admitted.accepted (at_end c proper es a run (λ stands opened nothing fine. fit c proper.admitted (end_state c.steps es) stands opened nothing fine)) other_store agree
+      ∙ clear w ps (leaves_nothing c proper.admitted) (none_has_unknowns c proper.admitted)
 
   pub outside_says_nothing : (es fs : List transcript.Entry) (a b : Answer) → MayRun c es (answered a) → MayRun (over_store c store) fs (answered b) → a ≡ b
   outside_says_nothing es fs a b run other =
@@ -238,5 +238,5 @@ module _ (c : Course) (store : Uid → Option (Entity V)) (proper : IsProper c) 
   outside_runs_stay es a run =
       let x = session_of c in
       let ps = c.submission.policies in
-      let asked = runs_ask_in_the_slice (MayDecide x ps) x ps c.steps es (answered a) proper.context run in
+      let asked = runs_ask_in_the_slice (MayDecide x ps) x ps c.steps es (answered a) proper.admitted.context run in
       (run.0, runs_stay x ps store c.steps es a (λ u k. same u (subst (λ z. InSlice x.schema x.level z u) (ends_are_the_courses c es a run) (asked u k))) (outside_moves es a run) run.1)

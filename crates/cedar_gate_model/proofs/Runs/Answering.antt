@@ -26,7 +26,7 @@ use Rattle.cedar_gate_model.specs.Transcript.{round, bound, decided}
 use Rattle.cedar_gate_model.specs.Runs.{answered, opening_refused, MayDecide}
 use Rattle.cedar_gate_model.specs.RunLaws.{bindings_in}
 use Rattle.cedar_gate_model.specs.RunsAsk.{end_state}
-use Rattle.cedar_gate_model.specs.RunsAnswer.{Course, session_of, IsProper, MayRun, loaded_world, with_unknowns}
+use Rattle.cedar_gate_model.specs.RunsAnswer.{Course, session_of, IsAdmitted, IsProper, MayRun, loaded_world, with_unknowns}
 use Rattle.cedar_gate_model.proofs.Gate.Reach.{completions_fit, accepted_are_sound, only_the_slice_answers}
 use Rattle.cedar_gate_model.proofs.Gate.Slices.{near_kept}
 use Rattle.cedar_gate_model.proofs.Runs.Completing.{Stands, stands_at_start, stands_after, completed}
@@ -38,15 +38,15 @@ if_true : {A : Type 0} (b : Bool) (x y : A) → b ≡ true → (if b then x else
 if_true true x y e = refl
 if_true false x y e = cc
 
-module _ (c : Course) (proper : IsProper c) (s : State) (stands : Stands (session_of c) s) (opened : (f : OpenRefusal) → OpenFault c.start f → ⊥)
+module _ (c : Course) (admitted : IsAdmitted c) (s : State) (stands : Stands (session_of c) s) (opened : (f : OpenRefusal) → OpenFault c.start f → ⊥)
     (nothing : (u : Uid) → IsWantedNow (session_of c) s u → ⊥) (fine : (f : AnswerRefusal) → AnswerFault (session_of c) s f → ⊥) where
   abbrev now : World
   now = world_now (session_of c) s
 
   pub fit : IsFitFor c.submission (with_unknowns now)
   fit =
-      let h = completed (session_of c) s stands nothing fine opened (proper.fair).agrees proper.context proper.store in
-      completions_fit c.submission c.start (with_unknowns now) (proper.fair).fair (subst (λ z. Completes (session_of c).schema z (session_of c).level c.start (with_unknowns now)) (proper.fair).table h.request)
+      let h = completed (session_of c) s stands nothing fine opened (admitted.fair).agrees admitted.context admitted.store in
+      completions_fit c.submission c.start (with_unknowns now) (admitted.fair).fair (subst (λ z. Completes (session_of c).schema z (session_of c).level c.start (with_unknowns now)) (admitted.fair).table h.request)
 
   in_slice : (u : Uid) → InSlice (session_of c).schema (session_of c).level (with_unknowns now) u → Contains s.asked u
   in_slice u h =
@@ -66,21 +66,21 @@ module _ (c : Course) (proper : IsProper c) (s : State) (stands : Stands (sessio
   loaded_answers =
       let ps = c.submission.policies in
       let clear = unknowns_say_nothing in
-      sym (clear (with_store now loaded_store) ps (leaves_nothing c proper) (none_has_unknowns c proper))
-      ∙ only_the_slice_answers c.submission (with_unknowns now) proper.accepted fit loaded_store (λ u h. if_true _ (whole_store (session_of c) u) missing (is_loaded u h))
-      ∙ clear now ps (leaves_nothing c proper) (none_has_unknowns c proper)
+      sym (clear (with_store now loaded_store) ps (leaves_nothing c admitted) (none_has_unknowns c admitted))
+      ∙ only_the_slice_answers c.submission (with_unknowns now) admitted.accepted fit loaded_store (λ u h. if_true _ (whole_store (session_of c) u) missing (is_loaded u h))
+      ∙ clear now ps (leaves_nothing c admitted) (none_has_unknowns c admitted)
 
   -- what each policy means
   pub good : (p : Policy) → Contains c.submission.policies p → (r : Res V) × PolicyMeans (with_unknowns now) p r × IsGood (bool_type any_bool) r
   good p k =
-      let h = completed (session_of c) s stands nothing fine opened (proper.fair).agrees proper.context proper.store in
-      (accepted_are_sound c.submission (with_unknowns now) proper.accepted fit p k).0 (h.request).whole
+      let h = completed (session_of c) s stands nothing fine opened (admitted.fair).agrees admitted.context admitted.store in
+      (accepted_are_sound c.submission (with_unknowns now) admitted.accepted fit p k).0 (h.request).whole
 
   pub expected : (e : PolicyError) → Contains (answer_of now c.submission.policies).errors e → IsExpected e.fault
   expected e k =
       let ps = c.submission.policies in
       let w = with_unknowns now in
-      let h = (errors_are_those w ps e).0 (subst (λ (z : Answer). Contains z.errors e) (sym (unknowns_say_nothing now ps (leaves_nothing c proper) (none_has_unknowns c proper))) k) in
+      let h = (errors_are_those w ps e).0 (subst (λ (z : Answer). Contains z.errors e) (sym (unknowns_say_nothing now ps (leaves_nothing c admitted) (none_has_unknowns c admitted))) k) in
       let p = h.0 in
       let g = good p h.1 in
       let same : g.0 ≡ err e.fault = one_outcome (with_slots w p.bindings) (condition p) g.0 (err e.fault) ((policies_mean_truth w p g.0).0 g.1) h.3 in
@@ -102,7 +102,7 @@ module _ (c : Course) (proper : IsProper c) (es : List transcript.Entry) (a : An
       (run_did (MayDecide x ps) x ps c.steps es (answered a) run)
 
   pub answer_is_loaded : a ≡ answer_of (loaded_world c es) c.submission.policies
-  answer_is_loaded = at_end (λ stands opened nothing fine. answer_is c es a run ∙ sym (loaded_answers c proper (end_state c.steps es) stands opened nothing fine))
+  answer_is_loaded = at_end (λ stands opened nothing fine. answer_is c es a run ∙ sym (loaded_answers c proper.admitted (end_state c.steps es) stands opened nothing fine))
 
   pub errors_are_expected : (e : PolicyError) → Contains a.errors e → IsExpected e.fault
-  errors_are_expected e k = at_end (λ stands opened nothing fine. expected c proper (end_state c.steps es) stands opened nothing fine e (subst (λ (z : Answer). Contains z.errors e) (answer_is c es a run) k))
+  errors_are_expected e k = at_end (λ stands opened nothing fine. expected c proper.admitted (end_state c.steps es) stands opened nothing fine e (subst (λ (z : Answer). Contains z.errors e) (answer_is c es a run) k))

@@ -48,7 +48,7 @@ use Rattle.cedar_evaluator_model.proofs.Responses.{Same, SameVerdict, same_verdi
 use Rattle.cedar_evaluator_model.proofs.Settled.{settled_there}
 use Rattle.cedar_gate_model.specs.GateLaws.{Holds}
 use Rattle.cedar_gate_model.specs.ReadingValue.{with_functions}
-use Rattle.cedar_gate_model.specs.RunsAnswer.{Course, session_of, IsProper, MakeFairly, IsOpened, IsKnownStore}
+use Rattle.cedar_gate_model.specs.RunsAnswer.{Course, session_of, IsAdmitted, MakeFairly, IsOpened, IsKnownStore}
 use Rattle.cedar_gate_model.specs.RunsAsk.{IsMadeContext}
 use Rattle.cedar_gate_model.specs.Early.{bounds_now, HoldsLookups, BoundsInPart, KeepsBounds}
 use Rattle.cedar_gate_model.specs.Session.{Setup, State, value_of, uid_in, context_left, entry_now, context_now, scope_now, known_now, world_now, HasOpenName, entry_named, is_open_entry, is_open_context, ContextFails, CompletesNow}
@@ -66,14 +66,14 @@ use Rattle.cedar_gate_model.proofs.Runs.Owing.{each_all}
 use Rattle.cedar_gate_model.proofs.Runs.Scoped.{righted, completes_now, answers_alike, all_well}
 
 -- bounds that are given hold in every completion
-pub given_bounds_hold : (c : Course) (s : State) (store : Uid → Found Made) → IsProper c → MakeFairly c.functions → IsOpened (session_of c) s → IsKnownStore c s store
+pub given_bounds_hold : (c : Course) (s : State) (store : Uid → Found Made) → IsAdmitted c → MakeFairly c.functions → IsOpened (session_of c) s → IsKnownStore c s store
     → (b : Bounds) → bounds_now c s store ≡ Some b → (w : World) → CompletesNow (session_of c) s w → Holds (record { must = b.must; may = b.may }) w c.submission.policies
-given_bounds_hold c s store proper fair start known b e w complete =
+given_bounds_hold c s store admitted fair start known b e w complete =
     let ps = c.submission.policies in
-    let v = righted c proper fair s store start known w complete in
-    let fits = each_all (λ p. FitsAnnotations v (condition p)) ps (λ p k. (each_in (λ n a. Fits a (v.unknowns n)) (condition p)).1 (none_unknown (condition p) (none_has_unknowns c proper p k) (λ n a. Fits a (v.unknowns n)))) in
-    let h = decisions.bounds_hold (scope_now (session_of c) s store) fair.agrees (all_well c proper fair s store start known w complete) c.submission.limit ps b e v (completes_now c proper fair s store start known w complete) fits in
-    let same : reasons_of v ps ≡ reasons_of w ps = ap (λ a. a.reasons) (answers_alike c proper fair s store start known w complete) in
+    let v = righted c admitted fair s store start known w complete in
+    let fits = each_all (λ p. FitsAnnotations v (condition p)) ps (λ p k. (each_in (λ n a. Fits a (v.unknowns n)) (condition p)).1 (none_unknown (condition p) (none_has_unknowns c admitted p k) (λ n a. Fits a (v.unknowns n)))) in
+    let h = decisions.bounds_hold (scope_now (session_of c) s store) (fair.answers).agrees (all_well c admitted fair s store start known w complete) c.submission.limit ps b e v (completes_now c admitted fair s store start known w complete) fits in
+    let same : reasons_of v ps ≡ reasons_of w ps = ap (λ a. a.reasons) (answers_alike c admitted fair s store start known w complete) in
     record { within = subst (λ rs. AreAmong b.must rs) same h.0; covers = subst (λ rs. AreAmong rs b.may) same h.1 }
 
 -- where the ids of policies are distinct, the ids of some of them in the order of all are those of the ones in their order
@@ -144,7 +144,7 @@ some_of : {A : Type 0} (o : Option A) → (o ≡ None → ⊥) → IsSome o
 some_of None h = absurd (h refl)
 some_of (Some a) h = refl
 
-module _ (c : Course) (proper : IsProper c) (s : State) (start : IsOpened (session_of c) s) (all : HasOpenName c.start s → ⊥) where
+module _ (c : Course) (admitted : IsAdmitted c) (s : State) (start : IsOpened (session_of c) s) (all : HasOpenName c.start s → ⊥) where
   abbrev x : Setup
   x = session_of c
 
@@ -204,7 +204,7 @@ module _ (c : Course) (proper : IsProper c) (s : State) (start : IsOpened (sessi
     by_left (residual r) e =
         let clear = none_is _ made.1 in
         let none = bound_leaves_none (value_of s) fields (λ u k. value_there u k) in
-        absurd (subst (IsShut (with_functions x.functions) (calls_leave_nothing c proper)) e (evaluated_shut (with_functions x.functions) (calls_leave_nothing c proper) 512 (substituted (value_of s) fields) (substituted_restricted (value_of s) fields clear) none))
+        absurd (subst (IsShut (with_functions x.functions) (calls_leave_nothing c admitted)) e (evaluated_shut (with_functions x.functions) (calls_leave_nothing c admitted) 512 (substituted (value_of s) fields) (substituted_restricted (value_of s) fields clear) none))
     by_left (stopped why) e = ⊎_elim (λ k. absurd (nothing_bound k)) (λ k. absurd (k (subst (ContextFails x.functions mine) (sym is) (why, e)))) (sound_of x start.opened s.bound start.bound)
 
   context_there : (k : Context) → x.start.context ≡ k → IsMadeContext k → IsSome (known_context (context_now x.functions s k))
@@ -229,7 +229,7 @@ module _ (c : Course) (proper : IsProper c) (s : State) (start : IsOpened (sessi
   resource_there = entry_there (codes "resource") x.start.resource refl
 
   request_there : IsSome now.context
-  request_there = context_there x.start.context refl proper.context
+  request_there = context_there x.start.context refl admitted.context
 
   module _ (store : Uid → Found Made) (stands_on : IsKnownStore c s store) where
     abbrev scope : Scope
@@ -244,16 +244,16 @@ module _ (c : Course) (proper : IsProper c) (s : State) (start : IsOpened (sessi
       action = action_there;
       resource = resource_there;
       context = request_there;
-      store = λ u. subst HoldsValues (sym (same u)) (known_values x s u (proper.store u));
-      calls = leaves_nothing c proper;
+      store = λ u. subst HoldsValues (sym (same u)) (known_values x s u (admitted.store u));
+      calls = leaves_nothing c admitted;
     }
 
     -- no policy meets the limit
     none_limited : met_limit (response_of scope c.submission.limit ps) ≡ false
     none_limited =
         let within : (p : Policy) → Contains ps p → WithinLimit scope c.submission.limit p =
-        λ p k. ((each_in _ (condition p)).1 (none_unknown (condition p) (none_has_unknowns c proper p k) _), ((accepted_good c.submission proper.accepted).each p k).shallow) in
-        none_met scope (proper.fair).agrees nothing_unknown c.submission.limit ps (each_all (WithinLimit scope c.submission.limit) ps within)
+        λ p k. ((each_in _ (condition p)).1 (none_unknown (condition p) (none_has_unknowns c admitted p k) _), ((accepted_good c.submission admitted.accepted).each p k).shallow) in
+        none_met scope (admitted.fair).agrees nothing_unknown c.submission.limit ps (each_all (WithinLimit scope c.submission.limit) ps within)
 
     pub bounds_owed : IsSome (bounds_now c s store)
     bounds_owed =
@@ -277,18 +277,18 @@ module _ (c : Course) (proper : IsProper c) (s : State) (start : IsOpened (sessi
       means : (p : Policy) → Contains ps p → MeansBoth p
       means p k =
           let u = with_slots now p.bindings in
-          let none = (each_in (λ n a. IsSome (u.unknowns n)) (condition p)).1 (none_unknown (condition p) (none_has_unknowns c proper p k) (λ n a. IsSome (u.unknowns n))) in
-          let o = what_is_there (outcome_of u (condition p)) (settled_there u (leaves_nothing c proper) principal_there action_there resource_there request_there (store_settled x proper.store) (condition p) none) in
+          let none = (each_in (λ n a. IsSome (u.unknowns n)) (condition p)).1 (none_unknown (condition p) (none_has_unknowns c admitted p k) (λ n a. IsSome (u.unknowns n))) in
+          let o = what_is_there (outcome_of u (condition p)) (settled_there u (leaves_nothing c admitted) principal_there action_there resource_there request_there (store_settled x admitted.store) (condition p) none) in
           let m = outcome_means u (condition p) o.0 o.1 in
           let n = (same_means u known.store (condition p) (looked_up p k) o.0).0 m in
-          record { outcome = o.0; whole = m; part = subst (λ z. Means (with_slots z p.bindings) (condition p) o.0) (known_same c s store proper same) n }
+          record { outcome = o.0; whole = m; part = subst (λ z. Means (with_slots z p.bindings) (condition p) o.0) (known_same c s store admitted same) n }
 
       verdicts : (p : Policy) → Contains ps p → Same kw scope c.submission.limit p
       verdicts p k =
           let m = means p k in
-          let r = ready c s store proper same none_limited in
+          let r = ready c s store admitted same none_limited in
           let t = with_bindings scope p.bindings in
-          let fits = (each_in (λ n a. Fits a (kw.unknowns n)) (condition p)).1 (none_unknown (condition p) (none_has_unknowns c proper p k) (λ n a. Fits a (kw.unknowns n))) in
+          let fits = (each_in (λ n a. Fits a (kw.unknowns n)) (condition p)).1 (none_unknown (condition p) (none_has_unknowns c admitted p k) (λ n a. Fits a (kw.unknowns n))) in
           same_verdict _ m.outcome (outcome_of (with_slots kw p.bindings) (condition p)) (evaluated t c.submission.limit (condition p)) (means_outcome (with_slots kw p.bindings) (condition p) m.outcome m.part)
           (owed_unless_limit t r.agrees r.unbound c.submission.limit (condition p) fits (no_limit_within scope c.submission.limit p (not_met scope c.submission.limit ps none_limited p k)) m.outcome m.part)
 
@@ -313,13 +313,13 @@ module _ (c : Course) (proper : IsProper c) (s : State) (start : IsOpened (sessi
           let rs = reasons_of now ps in
           let must : ids (must_be_determining q) ≡ rs = ap (λ z. z.reasons) (response_is_answer kw scope c.submission.limit ps (each_all (Same kw scope c.submission.limit) ps verdicts)) ∙ ap (λ z. z.reasons) answers in
           let may : ids (may_be_determining q) ≡ rs = ap ids (may_is_must q.true_permits q.true_forbids q.residual_permits q.residual_forbids (no_residual permit) (no_residual forbid)) ∙ must in
-          let order = reasons_ordered ps ((acceptance_reads c.submission).0 proper.accepted).distinct now in
+          let order = reasons_ordered ps ((acceptance_reads c.submission).0 admitted.accepted).distinct now in
           (λ i. cond (none_limited i) None (Some (record { must = in_order ps (must i); may = in_order ps (may i) }))) ∙ (λ i. Some (record { must = order i; may = order i }))
 
 -- what bounds of evaluating in part keep
-pub bounds_kept : (c : Course) (s : State) (b : Option Bounds) → IsProper c → MakeFairly c.functions → IsOpened (session_of c) s → BoundsInPart c s b → KeepsBounds c s b
-bounds_kept c s b proper fair start (store, known, e) = record {
-  hold = λ given is w complete. given_bounds_hold c s store proper fair start known given (sym e ∙ is) w complete;
-  owed = λ all. subst (λ (o : Option Bounds). IsSome o) (sym e) (bounds_owed c proper s start all store known);
-  reasons = λ all lookups. e ∙ bounds_are_reasons c proper s start all store known lookups;
+pub bounds_kept : (c : Course) (s : State) (b : Option Bounds) → IsAdmitted c → MakeFairly c.functions → IsOpened (session_of c) s → BoundsInPart c s b → KeepsBounds c s b
+bounds_kept c s b admitted fair start (store, known, e) = record {
+  hold = λ given is w complete. given_bounds_hold c s store admitted fair start known given (sym e ∙ is) w complete;
+  owed = λ all. subst (λ (o : Option Bounds). IsSome o) (sym e) (bounds_owed c admitted s start all store known);
+  reasons = λ all lookups. e ∙ bounds_are_reasons c admitted s start all store known lookups;
 }

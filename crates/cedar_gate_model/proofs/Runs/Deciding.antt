@@ -23,7 +23,7 @@ use Rattle.cedar_gate_model.specs.Transcript.{round, bound, decided}
 use Rattle.cedar_gate_model.specs.Runs.{MayDecide, with_asked, answered, opening_refused}
 use Rattle.cedar_gate_model.specs.RunLaws.{bindings_in, last_state}
 use Rattle.cedar_gate_model.specs.RunsAsk.{end_state}
-use Rattle.cedar_gate_model.specs.RunsAnswer.{Course, session_of, IsProper, MayRun, end_world, with_unknowns}
+use Rattle.cedar_gate_model.specs.RunsAnswer.{Course, session_of, IsAdmitted, IsProper, MayRun, end_world, with_unknowns}
 use Rattle.cedar_gate_model.proofs.Gate.Accepting.{acceptance_reads}
 use Rattle.cedar_gate_model.proofs.Gate.LegalRuns.{completes_before}
 use Rattle.cedar_gate_model.proofs.Runs.Did.{Did, run_did}
@@ -67,12 +67,12 @@ module _ (x : Setup) (ps : List Policy) (w : World) where
       (given s bs es d h.1 c)
 
 -- an accepted submission
-module _ (c : Course) (proper : IsProper c) where
+module _ (c : Course) (admitted : IsAdmitted c) where
   pub none_has_unknowns : NoneHasUnknowns c.submission.policies
-  none_has_unknowns p k = (((acceptance_reads c.submission).0 proper.accepted).each p k).known
+  none_has_unknowns p k = (((acceptance_reads c.submission).0 admitted.accepted).each p k).known
 
   pub leaves_nothing : LeavesNothing c.functions.table
-  leaves_nothing = subst LeavesNothing (sym (proper.fair).table) (typed_tables_leave_nothing c.submission.table (proper.fair).fair (proper.fair).typed)
+  leaves_nothing = subst LeavesNothing (sym (admitted.fair).table) (typed_tables_leave_nothing c.submission.table (admitted.fair).fair (admitted.fair).typed)
 
 module _ (c : Course) (es : List transcript.Entry) (a : Answer) (run : MayRun c es (answered a)) where
   pub answer_is : a ≡ answer_of (end_world c es) c.submission.policies
@@ -91,7 +91,7 @@ module _ (c : Course) (proper : IsProper c) (es : List transcript.Entry) (a : An
       let d = b.1 in
       let t = end_state c.steps es in
       let stands = stands_after x (MayDecide x ps) ps at_start (bindings_in c.steps) es proper.values d.0 (stands_at_start x) in
-      completed x t stands (d.1).0 (d.1).1 b.0 (proper.fair).agrees proper.context proper.store)
+      completed x t stands (d.1).0 (d.1).1 b.0 (proper.admitted.fair).agrees proper.admitted.context proper.admitted.store)
       (run_did (MayDecide x ps) x ps c.steps es (answered a) run)
 
   pub given_decisions : (d : Decision) → Contains es (decided (Some d)) → d ≡ a.decision
@@ -102,5 +102,5 @@ module _ (c : Course) (proper : IsProper c) (es : List transcript.Entry) (a : An
       ⊎_elim (λ b. let q : answered a ≡ opening_refused b.0 = b.1 in cc)
       (λ b.
       given x ps (with_unknowns w) at_start (bindings_in c.steps) es d (b.1).0 completes_end k
-      ∙ ap (λ z. z.decision) (unknowns_say_nothing w ps (leaves_nothing c proper) (none_has_unknowns c proper)) ∙ ap (λ z. z.decision) (sym (answer_is c es a run)))
+      ∙ ap (λ z. z.decision) (unknowns_say_nothing w ps (leaves_nothing c proper.admitted) (none_has_unknowns c proper.admitted)) ∙ ap (λ z. z.decision) (sym (answer_is c es a run)))
       (run_did (MayDecide x ps) x ps c.steps es (answered a) run)

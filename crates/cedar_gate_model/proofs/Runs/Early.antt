@@ -5,7 +5,7 @@ use Rattle.cedar_store_model.specs.Answer.{Decision}
 use Rattle.cedar_gate_model.specs.Early.{AnsweredConform, KeepsDecision}
 use Rattle.cedar_gate_model.specs.Owed.{IsForced}
 use Rattle.cedar_gate_model.specs.Runs.{MayDecide, DecidesInPart}
-use Rattle.cedar_gate_model.specs.RunsAnswer.{Course, session_of, IsProper, MakeFairly, IsOpened}
+use Rattle.cedar_gate_model.specs.RunsAnswer.{Course, session_of, IsAdmitted, MakeFairly, IsOpened}
 use Rattle.cedar_gate_model.specs.Session.{Setup, State, known_now, MeetsLimit}
 use Rattle.cedar_gate_model.proofs.Runs.Completing.{Stands}
 use Rattle.cedar_gate_model.proofs.Runs.Forcing.{forced_decisions_are_given}
@@ -25,13 +25,13 @@ forced_is_given : (c : Course) (s : State) (d : Option Decision) → MayDecide (
 forced_is_given c s (Some d) may given h free = refl
 forced_is_given c s None may given h free = absurd (⊎_elim free (λ k. k given h) may)
 
-pub decisions_kept : (c : Course) (s : State) (d : Option Decision) → IsProper c → MakeFairly c.functions → IsOpened (session_of c) s → AnsweredConform (session_of c) s
+pub decisions_kept : (c : Course) (s : State) (d : Option Decision) → IsAdmitted c → MakeFairly c.functions → IsOpened (session_of c) s → AnsweredConform (session_of c) s
     → DecidesInPart (session_of c) c.submission.policies s d → KeepsDecision c s d
-decisions_kept c s d proper fair start conform p =
+decisions_kept c s d admitted fair start conform p =
     let may : MayDecide (session_of c) c.submission.policies s d =
-    may_be_given (λ k r store q same. forced_decisions_are_given k r store q same) evaluated_decisions_hold c s p.0 proper fair start p.1 d p.2 in
+    may_be_given (λ k r store q same. forced_decisions_are_given k r store q same) evaluated_decisions_hold c s p.0 admitted fair start p.1 d p.2 in
     record {
       hold = λ given is. subst (MayDecide (session_of c) c.submission.policies s) is may;
       forced = forced_is_given c s d may;
-      owed = λ ready. owed c proper s (stands_now (session_of c) s start conform) start.opened ready d may;
+      owed = λ ready. owed c admitted s (stands_now (session_of c) s start conform) start.opened ready d may;
     }

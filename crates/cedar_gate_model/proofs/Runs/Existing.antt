@@ -21,13 +21,13 @@ use Rattle.cedar_evaluator_model.specs.Scope.{Scope, Entry, uid, unknown_uid, Co
 use Rattle.cedar_evaluator_model.specs.OfLaws.Whole.{HoldsValues}
 use Rattle.cedar_evaluator_model.proofs.Completable.{completions_exist}
 use Rattle.cedar_gate_model.specs.Session.{Setup, State, value_of, uid_in, context_left, entry_now, context_now, scope_now, variable_names, context_unknowns, name_of_variable, entry_named, is_open_entry, is_open_context}
-use Rattle.cedar_gate_model.specs.RunsAnswer.{Course, session_of, IsProper, IsOpened, IsKnownStore, ContextIsPossible}
+use Rattle.cedar_gate_model.specs.RunsAnswer.{Course, session_of, IsAdmitted, IsOpened, IsKnownStore, ContextIsPossible}
 use Rattle.cedar_gate_model.proofs.Runs.Completing.{IsTaken, taken_value, any_name, no_name_of_variable}
 use Rattle.cedar_gate_model.proofs.Runs.Contexts.{bound_context, left_context}
 use Rattle.cedar_gate_model.proofs.Runs.Names.{is_entity, bare_state, stands, quote_free, no_lie}
 use Rattle.cedar_gate_model.proofs.Runs.Knowing.{open_is_uid, known_values}
 
-module _ (c : Course) (proper : IsProper c) (s : State) (store : Uid → Found Made) (start : IsOpened (session_of c) s) (stands_on : IsKnownStore c s store) (given : Text → V) where
+module _ (c : Course) (admitted : IsAdmitted c) (s : State) (store : Uid → Found Made) (start : IsOpened (session_of c) s) (stands_on : IsKnownStore c s store) (given : Text → V) where
   abbrev x : Setup
   x = session_of c
 
@@ -106,12 +106,12 @@ module _ (c : Course) (proper : IsProper c) (s : State) (store : Uid → Found M
       action = entry_agrees (codes "action") x.start.action refl (no_variable (codes "action") (any_name (codes "action") refl) refl);
       resource = entry_agrees (codes "resource") x.start.resource refl (no_variable (codes "resource") (any_name (codes "resource") refl) refl);
       context = context_agrees x.start.context refl;
-      store = λ u. subst HoldsValues (sym (stands_on.known u)) (known_values x s u (proper.store u));
+      store = λ u. subst HoldsValues (sym (stands_on.known u)) (known_values x s u (admitted.store u));
     }
 
-pub sessions_have_completions : (c : Course) (s : State) (store : Uid → Found Made) (given : Text → V) → IsProper c → IsOpened (session_of c) s → IsKnownStore c s store
+pub sessions_have_completions : (c : Course) (s : State) (store : Uid → Found Made) (given : Text → V) → IsAdmitted c → IsOpened (session_of c) s → IsKnownStore c s store
     → ((n : Text) → is_free_name n ≡ true → Keeps (option_map bare (value_of s n)) (Some (given n))) → ContextIsPossible (session_of c) s given
     → (w : World) × evaluator.Completes w (scope_now (session_of c) s store)
-sessions_have_completions c s store given proper start known free possible =
-    let r = completions_exist (scope_now (session_of c) s store) given (parts_agree c proper s store start known given possible free) in
+sessions_have_completions c s store given admitted start known free possible =
+    let r = completions_exist (scope_now (session_of c) s store) given (parts_agree c admitted s store start known given possible free) in
     (r.0, r.1)

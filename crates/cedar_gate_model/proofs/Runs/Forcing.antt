@@ -19,7 +19,7 @@ use Rattle.cedar_evaluator_model.proofs.Exact.{leaves_unbound}
 use Rattle.cedar_evaluator_model.proofs.Forced.{forbid_forces, permit_forces, no_permit_forces}
 use Rattle.cedar_gate_model.specs.Owed.{IsForcedFalse, IsForced}
 use Rattle.cedar_gate_model.specs.Runs.{MayDecide}
-use Rattle.cedar_gate_model.specs.RunsAnswer.{Course, session_of, IsProper}
+use Rattle.cedar_gate_model.specs.RunsAnswer.{Course, session_of, IsAdmitted}
 use Rattle.cedar_gate_model.specs.Session.{State, known_now, scope_now}
 use Rattle.cedar_gate_model.proofs.Runs.Deciding.{none_unknown, none_has_unknowns, leaves_nothing}
 use Rattle.cedar_gate_model.proofs.Runs.Owing.{each_all}
@@ -31,7 +31,7 @@ is_satisfied k p h = (policies_mean_truth k p (val (truth_value true))).0 h
 is_unsatisfied : (k : World) (p : Policy) → IsForcedFalse k p → IsUnsatisfied k p
 is_unsatisfied k p h = (h.0, (policies_mean_truth k p h.0).0 h.1, h.2)
 
-module _ (c : Course) (s : State) (store : Uid → Found Made) (proper : IsProper c) (same : (u : Uid) → known_found (store u) ≡ (known_now (session_of c) s).store u) where
+module _ (c : Course) (s : State) (store : Uid → Found Made) (admitted : IsAdmitted c) (same : (u : Uid) → known_found (store u) ≡ (known_now (session_of c) s).store u) where
   abbrev pub scope : Scope
   scope = scope_now (session_of c) s store
 
@@ -43,9 +43,9 @@ module _ (c : Course) (s : State) (store : Uid → Found Made) (proper : IsPrope
 
   pub ready : met_limit (response_of scope c.submission.limit ps) ≡ false → IsReady scope c.submission.limit ps
   ready none = record {
-    agrees = (proper.fair).agrees;
-    unbound = leaves_unbound scope (proper.fair).agrees (leaves_nothing c proper);
-    fits = each_all (λ p. FitsAnnotations (known_world scope) (condition p)) ps (λ p k. (each_in _ (condition p)).1 (none_unknown (condition p) (none_has_unknowns c proper p k) _));
+    agrees = (admitted.fair).agrees;
+    unbound = leaves_unbound scope (admitted.fair).agrees (leaves_nothing c admitted);
+    fits = each_all (λ p. FitsAnnotations (known_world scope) (condition p)) ps (λ p k. (each_in _ (condition p)).1 (none_unknown (condition p) (none_has_unknowns c admitted p k) _));
     within = none;
   }
 

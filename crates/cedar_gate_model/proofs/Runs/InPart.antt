@@ -13,7 +13,7 @@ use Rattle.cedar_evaluator_model.specs.OfLaws.WellMade.{IsWellMade}
 use Rattle.cedar_evaluator_model.specs.Response.{response_of}
 use Rattle.cedar_gate_model.specs.Runs.{End, answered, opening_refused, supply_refused, binding_refused, answer_refused, MayDecide, DecidesInPart, with_asked, Loads, Binds, DecidesNow, Follows, Runs}
 use Rattle.cedar_gate_model.specs.RunLaws.{bindings_in}
-use Rattle.cedar_gate_model.specs.RunsAnswer.{session_of, IsProper, MakeFairly, AreBound, IsOpened, IsKnownStore, ForcedDecisionsAreGiven, EvaluatedDecisionsHold, RunsMayBe}
+use Rattle.cedar_gate_model.specs.RunsAnswer.{session_of, IsAdmitted, MakeFairly, AreBound, IsOpened, IsKnownStore, ForcedDecisionsAreGiven, EvaluatedDecisionsHold, RunsMayBe}
 use Rattle.cedar_gate_model.specs.Session.{Setup, State, at_start, scope_now, with_bound, OpenRefusal, OpenFault, BindRefusal, BindFault}
 use Rattle.cedar_gate_model.specs.Transcript.{Step, load, bind_name, decide, Entry, round, bound, decided}
 use Rattle.cedar_gate_model.proofs.Runs.Opened.{fault_same}
@@ -60,10 +60,10 @@ module _ (x : Setup) (ps : List Policy) (may more : State → Option Decision �
   runs_on steps es end w h = follows_on at_start steps es end tt w h
 
 -- what evaluating in part gives, or that it gives nothing, may be given
-pub may_be_given : ForcedDecisionsAreGiven → EvaluatedDecisionsHold → (c : _) (s : State) (store : Uid → Found Made) → IsProper c → MakeFairly c.functions → IsOpened (session_of c) s → IsKnownStore c s store
+pub may_be_given : ForcedDecisionsAreGiven → EvaluatedDecisionsHold → (c : _) (s : State) (store : Uid → Found Made) → IsAdmitted c → MakeFairly c.functions → IsOpened (session_of c) s → IsKnownStore c s store
     → (d : Option Decision) → d ≡ decision_in_session (response_of (scope_now (session_of c) s store) c.submission.limit c.submission.policies) → MayDecide (session_of c) c.submission.policies s d
-may_be_given forced evaluated c s store proper fair opened known None e = forced c s store proper known.known (sym e)
-may_be_given forced evaluated c s store proper fair opened known (Some d) e = evaluated c s store proper fair opened known d (sym e)
+may_be_given forced evaluated c s store admitted fair opened known None e = forced c s store admitted known.known (sym e)
+may_be_given forced evaluated c s store admitted fair opened known (Some d) e = evaluated c s store admitted fair opened known d (sym e)
 
 pub runs_may_be : ForcedDecisionsAreGiven → EvaluatedDecisionsHold → RunsMayBe
 runs_may_be forced evaluated c es end proper fair run = by end run
@@ -74,7 +74,7 @@ runs_may_be forced evaluated c es end proper fair run = by end run
     goes : (e : End) → ((f : OpenRefusal) → OpenFault x.start f → ⊥) → Follows (DecidesInPart x c.submission.policies) x c.submission.policies at_start c.steps es e → Follows (MayDecide x c.submission.policies) x c.submission.policies at_start c.steps es e
     goes e opened h =
         runs_on x c.submission.policies (DecidesInPart x c.submission.policies) (MayDecide x c.submission.policies) opened
-        (λ s d o p. may_be_given forced evaluated c s p.0 proper fair o p.1 d p.2) c.steps es e proper.values h
+        (λ s d o p. may_be_given forced evaluated c s p.0 proper.admitted fair o p.1 d p.2) c.steps es e proper.values h
 
     by : (e : End) → Runs (DecidesInPart x c.submission.policies) x c.submission.policies c.steps es e → Runs (MayDecide x c.submission.policies) x c.submission.policies c.steps es e
     by (opening_refused f) h = h

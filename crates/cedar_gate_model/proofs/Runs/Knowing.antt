@@ -21,7 +21,7 @@ use Rattle.cedar_schema_model.specs.Schema.{declares_action}
 use Rattle.cedar_evaluator_model.specs.OfLaws.Whole.{HoldsValues}
 use Rattle.cedar_gate_model.specs.Knowing.{without_slots}
 use Rattle.cedar_gate_model.specs.Moment.{context_known, entry_known}
-use Rattle.cedar_gate_model.specs.RunsAnswer.{Course, session_of, IsProper, IsOpened}
+use Rattle.cedar_gate_model.specs.RunsAnswer.{Course, session_of, IsAdmitted, IsOpened}
 use Rattle.cedar_gate_model.specs.Session.{Setup, State, value_of, whole_store, known_now, CompletesNow}
 use Rattle.cedar_gate_model.proofs.Gate.LegalRuns.{moment_of, bound_or_open, entry_same}
 use Rattle.cedar_gate_model.proofs.Runs.Completing.{neither}
@@ -123,8 +123,8 @@ module _ (x : Setup) (s : State) (w : World) (complete : CompletesNow x s w) whe
   value_kept n (Some m) e =
       ⊎_elim (λ r. (let q : r.0 ≡ m = (let z : Some r.0 ≡ Some m = sym r.1 ∙ e in cc) in (r.3).0 ∙ ap (λ k. Some (bare k)) q)) (λ r. (let z : Some m ≡ None = sym e ∙ r.0 in cc)) (bound_or_open w n s.bound complete.bound)
 
-pub knows_more : (c : Course) (s : State) (w : World) → IsProper c → IsOpened (session_of c) s → CompletesNow (session_of c) s w → Extends (known_now (session_of c) s) (without_slots w)
-knows_more c s w proper start complete =
+pub knows_more : (c : Course) (s : State) (w : World) → IsAdmitted c → IsOpened (session_of c) s → CompletesNow (session_of c) s w → Extends (known_now (session_of c) s) (without_slots w)
+knows_more c s w admitted start complete =
     let x = session_of c in
     let mine = bare_state x start.opened s start.bound in
     let at = λ (n : Text). bound_or_open w n s.bound complete.bound in
@@ -134,7 +134,7 @@ knows_more c s w proper start complete =
       action = keeps_when (entry_known (moment_of s) (codes "action") x.start.action) _ _ (entry_same s w (codes "action") x.start.action w.action (at (codes "action")) (λ m k. k.1.1 refl) r.action);
       resource = keeps_when (entry_known (moment_of s) (codes "resource") x.start.resource) _ _ (entry_same s w (codes "resource") x.start.resource w.resource (at (codes "resource")) (λ m k. k.1.2 refl) r.resource);
       context = keeps_when (context_known (moment_of mine) x.start.context) _ _
-          (legal.context_same c proper mine w (stands x start.opened s start.bound) (sound_of x start.opened s.bound start.bound) (completes_bare x start.opened s start.bound w complete) x.start.context refl proper.context r.context);
+          (legal.context_same c admitted mine w (stands x start.opened s start.bound) (sound_of x start.opened s.bound start.bound) (completes_bare x start.opened s start.bound w complete) x.start.context refl admitted.context r.context);
       slots = λ z. refl;
       unknowns = λ n. value_kept x s w complete n (value_of s n) refl;
       table = r.table;

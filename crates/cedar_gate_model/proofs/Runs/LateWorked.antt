@@ -19,7 +19,15 @@ use Rattle.cedar_gate_model.proofs.Gate.RoundsWorked.{wanted_exactly, takes}
 use Rattle.cedar_gate_model.proofs.Runs.Worked.{loaded_proper}
 
 pub late_proper : IsProper late_course
-late_proper = record { accepted = loaded_proper.accepted; fair = record { table = refl; fair = (loaded_proper.fair).fair; typed = refl; agrees = (loaded_proper.fair).agrees }; context = tt; values = λ b k. well b k; store = loaded_proper.store }
+late_proper = record {
+  admitted = record {
+    accepted = loaded_proper.admitted.accepted;
+    fair = record { table = refl; fair = (loaded_proper.admitted.fair).fair; typed = refl; agrees = (loaded_proper.admitted.fair).agrees };
+    context = tt;
+    store = loaded_proper.admitted.store;
+  };
+  values = λ b k. well b k;
+}
   where
     well : (b : Text × Made) → Contains ((codes "principal", uid_made user_b) ∷ []) b → IsWellMade late_course.functions.table b.1
     well b k = contains_cases (IsWellMade late_course.functions.table b.1) (codes "principal", uid_made user_b) [] b k (λ e. subst (λ z. IsWellMade late_course.functions.table z.1) e tt) (λ m. absurd (contains_none b m))

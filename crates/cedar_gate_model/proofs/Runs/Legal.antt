@@ -35,7 +35,7 @@ use Rattle.cedar_gate_model.specs.Moment.{ContextCompleted, at_first, context_kn
 use Rattle.cedar_gate_model.specs.ReadingValue.{with_functions}
 use Rattle.cedar_gate_model.specs.RunLaws.{bindings_in, last_state, case_of}
 use Rattle.cedar_gate_model.specs.Runs.{End, MayDecide, IsRoundNow, with_asked}
-use Rattle.cedar_gate_model.specs.RunsAnswer.{Course, session_of, IsProper, MayRun}
+use Rattle.cedar_gate_model.specs.RunsAnswer.{Course, session_of, IsAdmitted, IsProper, MayRun}
 use Rattle.cedar_gate_model.specs.RunsAsk.{IsMadeContext, end_state}
 use Rattle.cedar_gate_model.specs.Session.{Setup, State, at_start, value_of, context_left, context_now, known_now, ContextFails, context_fails, with_bound, CompletesNow}
 use Rattle.cedar_gate_model.specs.Slice.{InSlice}
@@ -58,7 +58,7 @@ some_unknown_of t e =
     let u = what_is_there (unknown_here r.0) r.2 in
     (u.0, kept_has unknown_here (subexpressions t) r.0 u.0 r.1 u.1)
 
-module _ (c : Course) (proper : IsProper c) where
+module _ (c : Course) (admitted : IsAdmitted c) where
   abbrev pub x : Setup
   x = session_of c
 
@@ -66,7 +66,7 @@ module _ (c : Course) (proper : IsProper c) where
   ps = c.submission.policies
 
   pub calls_leave_nothing : (f : Name) (ms : List Made) (n : Text) → IsTaken x.functions.table f (map bare ms) → x.functions.calls f ms ≡ leaves_unknown n → ⊥
-  calls_leave_nothing f ms n t e = leaves_nothing c proper f (map bare ms) n t (sym ((proper.fair).agrees f ms t) ∙ ap bare_called e)
+  calls_leave_nothing f ms n t e = leaves_nothing c admitted f (map bare ms) n t (sym ((admitted.fair).agrees f ms t) ∙ ap bare_called e)
 
   -- nothing is bound yet, or the context doesn't fail
   abbrev pub Sound : State → Type 0
@@ -118,7 +118,7 @@ module _ (c : Course) (proper : IsProper c) where
       all_bound h (value_left m) e =
           let clear = none_is _ made.1 in
           let r = record_evaluated (with_functions x.functions) 512 (tree_fields (built_fields (puts (value_of s)) fs)) m e in
-          let value = value_is_meant (with_functions x.functions) w (proper.fair).agrees (λ n. refl) (complete.request).table 512 (substituted (value_of s) fields) (substituted_restricted (value_of s) fields clear) m e in
+          let value = value_is_meant (with_functions x.functions) w (admitted.fair).agrees (λ n. refl) (complete.request).table 512 (substituted (value_of s) fields) (substituted_restricted (value_of s) fields clear) m e in
           let same : Some (val v) ≡ Some (val (bare m)) = sym means ∙ substituted_outcome w (value_of s) (λ n. well n (value_of s n) refl) (λ n. keeps n (value_of s n) refl) fields ∙ value in
           let q : v ≡ bare m = cc in
           ap (λ k. known_context (left_context (value_left k))) (sym r.1) ∙ ap (λ k. Some (bare k)) r.1 ∙ ap Some (sym q)
@@ -150,7 +150,7 @@ module _ (c : Course) (proper : IsProper c) where
     roots_same = record {
       principal = before.entry_same s w (codes "principal") x.start.principal w.principal (at_name (codes "principal")) (λ m k. k.1.0 refl) (complete.request).principal;
       resource = before.entry_same s w (codes "resource") x.start.resource w.resource (at_name (codes "resource")) (λ m k. k.1.2 refl) (complete.request).resource;
-      context = context_same c.start.context refl proper.context (complete.request).context;
+      context = context_same c.start.context refl admitted.context (complete.request).context;
     }
 
     slice_same : (n : ℕ) (u : Uid) → InSlice x.schema n (seen x w s) u ↔ InSlice x.schema n (known_now x s) u
@@ -183,5 +183,5 @@ runs_are_legal c es end proper run w done =
     let k = session_of c in
     let ps = c.submission.policies in
     ⊎_elim (λ a. subst (λ l. AreLegal (case_of k ps) w at_first l) (sym a.2) tt)
-    (λ a. legal c proper w at_start (bindings_in c.steps) es proper.values (a.1).0 (stands_at_start k) (inl refl) done)
+    (λ a. legal c proper.admitted w at_start (bindings_in c.steps) es proper.values (a.1).0 (stands_at_start k) (inl refl) done)
     (run_did (MayDecide k ps) k ps c.steps es end run)

@@ -27,7 +27,7 @@ use Rattle.cedar_gate_model.specs.Headline.{IsNear, IsLegalSoFar, KeepsPromises}
 use Rattle.cedar_gate_model.specs.Moment.{at_first}
 use Rattle.cedar_gate_model.specs.RunLaws.{bindings_in, last_state}
 use Rattle.cedar_gate_model.specs.Runs.{answered, opening_refused, MayDecide, DecidesInPart, with_asked}
-use Rattle.cedar_gate_model.specs.RunsAnswer.{Course, session_of, IsProper, MakeFairly, MayRun, AreBound, IsOpened, IsReady, with_unknowns}
+use Rattle.cedar_gate_model.specs.RunsAnswer.{Course, session_of, IsAdmitted, IsProper, MakeFairly, MayRun, AreBound, IsOpened, IsReady, with_unknowns}
 use Rattle.cedar_gate_model.specs.RunsAsk.{end_state}
 use Rattle.cedar_gate_model.specs.Session.{Setup, State, at_start, value_of, known_now, world_now, with_bound, OpenRefusal, OpenFault, AnswerRefusal, AnswerFault, NothingIsWanted, IsWantedList, CompletesNow}
 use Rattle.cedar_gate_model.specs.Transcript.{Step, load, bind_name, decide, Entry, round, bound, decided}
@@ -119,10 +119,10 @@ module _ (c : Course) (es : List Entry) (t : State) (came : CameTo c es t) where
   asked_once : HasTwice (asked_in es) → ⊥
   asked_once = subst (λ l. HasTwice l → ⊥) (sym (asked_last in_part x at_first at_start bs es refl did_there.0)) (once in_part x at_start bs es nothing_once did_there.0)
 
-  pub wanted_is_new : (uids : List Uid) → IsProper c → IsWantedList x t uids → (HasTwice (asked_in es ++ uids) → ⊥) × ((u : Uid) → Contains uids u → IsNear c es u)
-  wanted_is_new uids proper wanted = (
+  pub wanted_is_new : (uids : List Uid) → IsAdmitted c → IsWantedList x t uids → (HasTwice (asked_in es ++ uids) → ⊥) × ((u : Uid) → Contains uids u → IsNear c es u)
+  wanted_is_new uids admitted wanted = (
     apart_once (asked_in es) uids asked_once (rising_once uids wanted.in_order) (λ u k m. ((wanted.exact u).0 m).1 (subst (λ l. Contains l u) asked_there k)),
-    λ u k. wanted_in_slice in_part x proper.context t (end_state c.steps es) (λ n m e. subst (λ (z : State). value_of z n ≡ Some m) moments_are_states e) u ((wanted.exact u).0 k),
+    λ u k. wanted_in_slice in_part x admitted.context t (end_state c.steps es) (λ n m e. subst (λ (z : State). value_of z n ≡ Some m) moments_are_states e) u ((wanted.exact u).0 k),
   )
 
   module _ (proper : IsProper c) (fair : MakeFairly c.functions) where
@@ -132,26 +132,26 @@ module _ (c : Course) (es : List Entry) (t : State) (came : CameTo c es t) where
     did_may : Did may x ps at_start bs es
     did_may =
         did_on in_part x ps may came.opens
-        (λ s d o p. may_be_given (λ k r store q same. forced_decisions_are_given k r store q same) evaluated_decisions_hold c s p.0 proper fair o p.1 d p.2) at_start bs es tt proper.values did_there.0
+        (λ s d o p. may_be_given (λ k r store q same. forced_decisions_are_given k r store q same) evaluated_decisions_hold c s p.0 proper.admitted fair o p.1 d p.2) at_start bs es tt proper.values did_there.0
 
     near_there : (u : Uid) → Contains (asked_in es) u → IsNear c es u
     near_there u k =
         ⊎_elim (λ b. absurd (contains_none u b)) (λ b. b)
-        (within may x proper.context at_start bs es did_may u (subst (λ l. Contains l u) (asked_last may x at_first at_start bs es refl did_may) k))
+        (within may x proper.admitted.context at_start bs es did_may u (subst (λ l. Contains l u) (asked_last may x at_first at_start bs es refl did_may) k))
 
     owed_there : (before after : List Entry) (d : Option Decision) → es ≡ before ++ decided d ∷ after → IsReady c (end_state c.steps before) → IsSome d
     owed_there before after d is ready =
         let r = decided_then may x ps at_start bs before after d (subst (λ zs. Did may x ps at_start bs zs) is did_may) in
-        owed c proper (end_state c.steps before) (stands_after x may ps at_start bs before proper.values r.1 (stands_at_start x)) came.opens ready d r.0
+        owed c proper.admitted (end_state c.steps before) (stands_after x may ps at_start bs before proper.values r.1 (stands_at_start x)) came.opens ready d r.0
 
     pub moments_keep : KeepsPromises c es None
     moments_keep = record {
-      admitted = proper.accepted;
+      admitted = proper.admitted.accepted;
       once = asked_once;
       near = near_there;
       few = few may x at_start bs es [] did_may (λ u k. absurd k) (omega arith);
       owed = owed_there;
-      legal = λ w done. record { entries = legal c proper w at_start bs es proper.values did_may (stands_at_start x) (inl refl) done; answer = tt };
+      legal = λ w done. record { entries = legal c proper.admitted w at_start bs es proper.values did_may (stands_at_start x) (inl refl) done; answer = tt };
       whole = λ a is. cc;
     }
 
@@ -160,7 +160,7 @@ kept_is : {A : Type 0} (k o : Option A) → IsSome k → Keeps k o → k ≡ o
 kept_is (Some a) o i h = sym h
 kept_is None o i h = cc
 
-module _ (c : Course) (proper : IsProper c) (end : State) (stands : Stands (session_of c) end) (start : IsOpened (session_of c) end)
+module _ (c : Course) (admitted : IsAdmitted c) (end : State) (stands : Stands (session_of c) end) (start : IsOpened (session_of c) end)
     (nothing : NothingIsWanted (session_of c) end) (fine : (f : AnswerRefusal) → AnswerFault (session_of c) end f → ⊥) (w : World) (complete : CompletesNow (session_of c) end w) where
   abbrev setup : Setup
   setup = session_of c
@@ -175,12 +175,12 @@ module _ (c : Course) (proper : IsProper c) (end : State) (stands : Stands (sess
   free = (with_unknowns now).unknowns
 
   more : Extends (known_now setup end) (without_slots w)
-  more = knows_more c end w proper start complete
+  more = knows_more c end w admitted start complete
 
   looked_up : (p : Policy) → Contains policies p → (u : Uid) → Looks (with_slots (with_unknowns now) p.bindings) (condition p) u → w.store u ≡ (with_unknowns now).store u
   looked_up p k u l =
       same_there setup end w complete u
-      (is_loaded c proper end stands start.opened nothing fine u (accepted_in_reach c.submission (with_unknowns now) proper.accepted (fit c proper end stands start.opened nothing fine) p k u l))
+      (is_loaded c admitted end stands start.opened nothing fine u (accepted_in_reach c.submission (with_unknowns now) admitted.accepted (fit c admitted end stands start.opened nothing fine) p k u l))
 
   -- the world with the unknowns and the slots of what is known
   abbrev plain : World
@@ -202,12 +202,12 @@ module _ (c : Course) (proper : IsProper c) (end : State) (stands : Stands (sess
       (λ p k.
       let u = with_slots w p.bindings in
       condition_asked plain p
-      ∙ same_meant u free (subst LeavesNothing (sym (complete.request).table) (leaves_nothing c proper)) (condition p) (none_unknown (condition p) (none_has_unknowns c proper p k) (λ n a. bound_value (free n) ≡ bound_value (u.unknowns n)))
+      ∙ same_meant u free (subst LeavesNothing (sym (complete.request).table) (leaves_nothing c admitted)) (condition p) (none_unknown (condition p) (none_has_unknowns c admitted p k) (λ n a. bound_value (free n) ≡ bound_value (u.unknowns n)))
       ∙ sym (condition_asked w p))
 
   pub one_answer : answer_of now policies ≡ answer_of w policies
   one_answer =
-      sym (unknowns_say_nothing now policies (leaves_nothing c proper) (none_has_unknowns c proper)) ∙ sym (only_lookups_answer (with_unknowns now) w.store policies looked_up)
+      sym (unknowns_say_nothing now policies (leaves_nothing c admitted) (none_has_unknowns c admitted)) ∙ sym (only_lookups_answer (with_unknowns now) w.store policies looked_up)
       ∙ ap (λ z. answer_of z policies) by_request ∙ by_unknowns
 
 pub answered_runs_are_legal : (c : Course) (es : List Entry) (a : Answer) → IsProper c → MayRun c es (answered a) → IsLegalSoFar c es (Some a)
@@ -221,6 +221,6 @@ answered_runs_are_legal c es a proper run w complete =
     let start : IsOpened x (end_state c.steps es) = record { opened = b.0; bound = bound_after x (MayDecide x ps) ps at_start (bindings_in c.steps) es proper.values d tt } in
     record {
       entries = runs_are_legal c es (answered a) proper run w complete;
-      answer = ((b.1).1).2 ∙ one_answer c proper (end_state c.steps es) stands start ((b.1).1).0 ((b.1).1).1 w complete;
+      answer = ((b.1).1).2 ∙ one_answer c proper.admitted (end_state c.steps es) stands start ((b.1).1).0 ((b.1).1).1 w complete;
     })
     (run_did (MayDecide x ps) x ps c.steps es (answered a) run)

@@ -31,7 +31,7 @@ use Rattle.cedar_gate_model.specs.Transcript.{round, bound, decided}
 use Rattle.cedar_gate_model.specs.Runs.{End, MayDecide, with_asked}
 use Rattle.cedar_gate_model.specs.RunLaws.{bindings_in, last_state}
 use Rattle.cedar_gate_model.specs.RunsAsk.{end_state}
-use Rattle.cedar_gate_model.specs.RunsAnswer.{Course, session_of, IsProper, MayRun, IsReady, with_unknowns}
+use Rattle.cedar_gate_model.specs.RunsAnswer.{Course, session_of, IsAdmitted, IsProper, MayRun, IsReady, with_unknowns}
 use Rattle.cedar_gate_model.proofs.Gate.Accepting.{accepted_good}
 use Rattle.cedar_gate_model.proofs.Gate.Reach.{accepted_in_reach}
 use Rattle.cedar_gate_model.proofs.Runs.Answering.{fit, is_loaded, good}
@@ -84,7 +84,7 @@ module _ (k : World) (ps : List Policy) (means : (p : Policy) → Contains ps p 
 pub each_all : (P : Policy → Type 0) (ps : List Policy) → ((p : Policy) → Contains ps p → P p) → All P ps
 each_all P ps h = λ k d l. h (slice_index_or ps k d) (All-contains_itself ps k d l)
 
-module _ (c : Course) (proper : IsProper c) (s : State) (stands : Stands (session_of c) s) (opened : (f : OpenRefusal) → OpenFault c.start f → ⊥) (ready : IsReady c s) where
+module _ (c : Course) (admitted : IsAdmitted c) (s : State) (stands : Stands (session_of c) s) (opened : (f : OpenRefusal) → OpenFault c.start f → ⊥) (ready : IsReady c s) where
   abbrev known : World
   known = known_now (session_of c) s
 
@@ -99,17 +99,17 @@ module _ (c : Course) (proper : IsProper c) (s : State) (stands : Stands (sessio
   -- what a policy looks up was loaded
   looked_up : (p : Policy) → Contains c.submission.policies p → (u : Uid) → Looks (with_slots (with_unknowns now) p.bindings) (condition p) u → known.store u ≡ now.store u
   looked_up p k u l =
-      let reach = accepted_in_reach c.submission (with_unknowns now) proper.accepted (fit c proper s stands opened ready.loaded fine) p k u l in
-      ap (λ b. cond b (now.store u) (unloaded u)) (is_loaded c proper s stands opened ready.loaded fine u reach)
+      let reach = accepted_in_reach c.submission (with_unknowns now) admitted.accepted (fit c admitted s stands opened ready.loaded fine) p k u l in
+      ap (λ b. cond b (now.store u) (unloaded u)) (is_loaded c admitted s stands opened ready.loaded fine u reach)
 
   known_means : (p : Policy) → Contains c.submission.policies p → (r : Res V) × PolicyMeans known p r
   known_means p k =
-      let g = good c proper s stands opened ready.loaded fine p k in
+      let g = good c admitted s stands opened ready.loaded fine p k in
       let w = with_unknowns now in
       let m = (policies_mean_truth w p g.0).0 g.1 in
       let n = (same_means (with_slots w p.bindings) known.store (condition p) (looked_up p k) g.0).0 m in
       let u = with_slots known p.bindings in
-      let same = same_filled u (leaves_nothing c proper) (condition p) (none_unknown (condition p) (none_has_unknowns c proper p k) (λ n a. IsSome (u.unknowns n))) in
+      let same = same_filled u (leaves_nothing c admitted) (condition p) (none_unknown (condition p) (none_has_unknowns c admitted p k) (λ n a. IsSome (u.unknowns n))) in
       (g.0, (policies_mean_truth known p g.0).1 (outcome_means u (condition p) g.0 (sym same ∙ means_outcome (with_slots (with_unknowns known) p.bindings) (condition p) g.0 n)))
 
   -- no policy meets the limit
@@ -121,16 +121,16 @@ module _ (c : Course) (proper : IsProper c) (s : State) (stands : Stands (sessio
         action = p.1;
         resource = p.2;
         context = p.3;
-        store = λ u. subst HoldsValues (sym (same u)) (known_values (session_of c) s u (proper.store u));
-        calls = leaves_nothing c proper;
+        store = λ u. subst HoldsValues (sym (same u)) (known_values (session_of c) s u (admitted.store u));
+        calls = leaves_nothing c admitted;
       }
 
   none_limited : MeetsLimit (session_of c) c.submission.policies s → ⊥
   none_limited h =
       let scope = scope_now (session_of c) s h.0 in
       let within : (p : Policy) → Contains c.submission.policies p → WithinLimit scope c.submission.limit p =
-      λ p k. ((each_in _ (condition p)).1 (none_unknown (condition p) (none_has_unknowns c proper p k) _), ((accepted_good c.submission proper.accepted).each p k).shallow) in
-      let none = none_met scope (proper.fair).agrees (nothing_unknown h.0 h.1) c.submission.limit c.submission.policies (each_all (WithinLimit scope c.submission.limit) c.submission.policies within) in
+      λ p k. ((each_in _ (condition p)).1 (none_unknown (condition p) (none_has_unknowns c admitted p k) _), ((accepted_good c.submission admitted.accepted).each p k).shallow) in
+      let none = none_met scope (admitted.fair).agrees (nothing_unknown h.0 h.1) c.submission.limit c.submission.policies (each_all (WithinLimit scope c.submission.limit) c.submission.policies within) in
       let lie : true ≡ false = sym h.2 ∙ none in cc
 
   pub owed : (d : Option Decision) → MayDecide (session_of c) c.submission.policies s d → IsSome d
@@ -158,5 +158,5 @@ ready_decisions c before after d end proper run ready =
     (λ b.
     let r = decided_then (MayDecide x ps) x ps at_start (bindings_in c.steps) before after d (b.1).0 in
     let stands = stands_after x (MayDecide x ps) ps at_start (bindings_in c.steps) before proper.values r.1 (stands_at_start x) in
-    owed c proper (end_state c.steps before) stands b.0 ready d r.0)
+    owed c proper.admitted (end_state c.steps before) stands b.0 ready d r.0)
     (run_did (MayDecide x ps) x ps c.steps (before ++ decided d ∷ after) end run)

@@ -79,18 +79,18 @@ module _ (c : Course) (proper : IsProper c) (es : List Entry) (a : Answer) (run 
   whole_fits : IsFitFor c.submission whole
   whole_fits =
       subst (λ w. IsFitFor c.submission (with_unknowns w)) (ends_are_the_courses c es a run)
-      (at_end c proper es a run (λ stands opened nothing fine. fit c proper (end_state c.steps es) stands opened nothing fine))
+      (at_end c proper es a run (λ stands opened nothing fine. fit c proper.admitted (end_state c.steps es) stands opened nothing fine))
 
   irrelevant_unsatisfied : (r : RequestType) → IsOfTypes (course_world c) r → (p : Policy) → Contains c.submission.policies p → irrelevant_for (schema_in c.submission) c.submission.table r p ≡ true → IsSatisfied whole p → ⊥
   irrelevant_unsatisfied r types p k e sat =
       let b = c.submission in
       let s = schema_in b in
-      let o = orderly b whole proper.accepted whole_fits in
+      let o = orderly b whole proper.admitted.accepted whole_fits in
       let k' = conforming s b.table whole o whole_fits.0 in
       let q = k'.request.0 in
       let of_request = k'.request.1 in
       let action : Some q.action ≡ Some r.action = sym of_request.action ∙ types.action in
-      irrelevant_is_sound s b.table whole p k' ((accepted_good b proper.accepted).each p k).linked (accepted_conform b whole proper.accepted whole_fits p k) r
+      irrelevant_is_sound s b.table whole p k' ((accepted_good b proper.admitted.accepted).each p k).linked (accepted_conform b whole proper.admitted.accepted whole_fits p k) r
       (types.principal q.principal of_request.principal) (let z : q.action ≡ r.action = cc in z) (types.resource q.resource of_request.resource)
       ((irrelevant-Decides s b.table r p).0 e) sat
 
@@ -103,8 +103,8 @@ module _ (c : Course) (proper : IsProper c) (es : List Entry) (a : Answer) (run 
       let kept = filter keep ps in
       let w = course_world c in
       let h = dropped_decide whole keep ps (λ p k e. unsatisfied (satisfied whole p) (satisfied-Decides whole p) (irrelevant_unsatisfied r types p k (not_false (irrelevant_for (schema_in b) b.table r p) e))) in
-      let some = unknowns_say_nothing w kept (leaves_nothing c proper) (λ p k. none_has_unknowns c proper p (filter_only keep ps p k).0) in
-      let all = unknowns_say_nothing w ps (leaves_nothing c proper) (none_has_unknowns c proper) in
+      let some = unknowns_say_nothing w kept (leaves_nothing c proper.admitted) (λ p k. none_has_unknowns c proper.admitted p (filter_only keep ps p k).0) in
+      let all = unknowns_say_nothing w ps (leaves_nothing c proper.admitted) (none_has_unknowns c proper.admitted) in
       let end = course_answer c es a run in
       (ap (λ z. z.decision) (sym some) ∙ h.0 ∙ ap (λ z. z.decision) (all ∙ sym end), ap (λ z. z.reasons) (sym some) ∙ h.1 ∙ ap (λ z. z.reasons) (all ∙ sym end))
 
@@ -112,11 +112,11 @@ module _ (c : Course) (proper : IsProper c) (es : List Entry) (a : Answer) (run 
   warned_are_no_reasons id k m =
       let b = c.submission in
       let ps = b.policies in
-      let all = unknowns_say_nothing (course_world c) ps (leaves_nothing c proper) (none_has_unknowns c proper) in
+      let all = unknowns_say_nothing (course_world c) ps (leaves_nothing c proper.admitted) (none_has_unknowns c proper.admitted) in
       let warned = (warned_are_impossible b id).0 k in
       let reason = (reasons_are_those whole ps id).0 (subst (λ (z : Answer). Contains z.reasons id) (course_answer c es a run ∙ sym all) m) in
-      let same = one_policy ps (accepted_good b proper.accepted).distinct warned.0 reason.0 warned.1 reason.1 (warned.3 ∙ sym reason.4) in
-      (accepted_are_sound b whole proper.accepted whole_fits warned.0 warned.1).1 warned.2 (subst (IsSatisfied whole) (sym same) reason.3)
+      let same = one_policy ps (accepted_good b proper.admitted.accepted).distinct warned.0 reason.0 warned.1 reason.1 (warned.3 ∙ sym reason.4) in
+      (accepted_are_sound b whole proper.admitted.accepted whole_fits warned.0 warned.1).1 warned.2 (subst (IsSatisfied whole) (sym same) reason.3)
 
 -- policies in another order
 pub policies_may_move : (b : Submission) (qs : List Policy) → IsPermutation b.policies qs → IsAccepted b → IsAccepted (with_policies b qs)

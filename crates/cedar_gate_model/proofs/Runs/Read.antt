@@ -31,7 +31,7 @@ use Rattle.cedar_gate_model.specs.Transcript.{Step, load, bind_name, decide}
 use Rattle.cedar_gate_model.proofs.Reading.Bundles.{bundle_parts, there_has, table_is_given, store_holds_values}
 use Rattle.cedar_gate_model.proofs.Reading.Steps.{given_some, map_some, passing_some, beside_all, given_gives, map_gives, if_gives}
 use Rattle.cedar_gate_model.proofs.Reading.Values.{none_is, first_some, open_contexts_have_unknowns}
-use Rattle.cedar_gate_model.proofs.Runs.WellMade.{evaluated_well}
+use Rattle.cedar_gate_model.proofs.Runs.WellMade.{makes_well, evaluated_well}
 use Rattle.cedar_gate_model.proofs.Named.{request_keys, step_words}
 
 -- the request of a bundle, and its context
@@ -68,7 +68,7 @@ module _ (x : Functions) (fair : MakeFairly x) where
       let p = given_some (given (expression_read second d) (if_passing is_restricted)) (λ t. if_value (left_of_restricted x t)) m e in
       let q = given_some (expression_read second d) (if_passing is_restricted) p.0 p.1 in
       let r = passing_some is_restricted q.0 p.0 q.2 in
-      evaluated_well (with_functions x) (λ n. refl) fair.well 512 p.0 (none_is (offence p.0) (ap is_restricted r.1 ∙ r.0)) m (value_left_is (left_of_restricted x p.0) m p.2)
+      evaluated_well (with_functions x) (λ n. refl) (makes_well x fair) 512 p.0 (none_is (offence p.0) (ap is_restricted r.1 ∙ r.0)) m (value_left_is (left_of_restricted x p.0) m p.2)
 
   -- steps
   abbrev BindsWell : List Step → Type 0
@@ -111,10 +111,13 @@ pub bundles_are_proper : (x : Functions) (d : Data) (b : Bundle) → MakeFairly 
 bundles_are_proper x d b fair e accepted =
     let same = table_is_given x d b e in
     let start = given_some (get (codes "request") d) (request_read x) b.start (bundle_start x d b e) in
+    let answers = fair.answers in
     record {
-      accepted = accepted;
-      fair = record { table = sym same; fair = subst IsFair (sym same) fair.fair; typed = subst (λ t. all_typed t ≡ true) (sym same) fair.typed; agrees = fair.agrees };
-      context = request_made x start.0 b.start start.2;
+      admitted = record {
+        accepted = accepted;
+        fair = record { table = sym same; fair = subst IsFair (sym same) answers.fair; typed = subst (λ t. all_typed t ≡ true) (sym same) answers.typed; agrees = answers.agrees };
+        context = request_made x start.0 b.start start.2;
+        store = λ u f q. store_holds_values x d b e (u, f) (found_stands b.store u f q);
+      };
       values = steps_well x fair d b.steps (bundle_parts x d b e).steps;
-      store = λ u f q. store_holds_values x d b e (u, f) (found_stands b.store u f q);
     }

@@ -44,7 +44,7 @@ use Rattle.cedar_gate_model.specs.ReadingValue.{with_functions}
 use Rattle.cedar_gate_model.specs.Session.{Setup, State, value_of, context_left, context_now, scope_now, CompletesNow}
 use Rattle.cedar_gate_model.specs.Runs.{MayDecide}
 use Rattle.cedar_gate_model.specs.RunsAsk.{IsMadeContext}
-use Rattle.cedar_gate_model.specs.RunsAnswer.{Course, session_of, IsProper, MakeFairly, IsOpened, IsKnownStore}
+use Rattle.cedar_gate_model.specs.RunsAnswer.{Course, session_of, IsAdmitted, MakeFairly, IsOpened, IsKnownStore}
 use Rattle.cedar_gate_model.proofs.Gate.LegalRuns.{moment_of}
 use Rattle.cedar_gate_model.proofs.Reading.Values.{evaluated_clean, Clean, none_is}
 use Rattle.cedar_gate_model.proofs.Runs.Completing.{Stands, taken_value}
@@ -53,10 +53,10 @@ use Rattle.cedar_gate_model.proofs.Runs.Deciding.{none_unknown, none_has_unknown
 use Rattle.cedar_gate_model.proofs.Runs.Knowing.{known_there, open_is_uid}
 use Rattle.cedar_gate_model.proofs.Runs.Legal as legal
 use Rattle.cedar_gate_model.proofs.Runs.Owing.{each_all}
-use Rattle.cedar_gate_model.proofs.Runs.WellMade.{evaluated_well}
+use Rattle.cedar_gate_model.proofs.Runs.WellMade.{makes_well, evaluated_well}
 use Rattle.cedar_gate_model.proofs.Runs.Names.{no_store, there, when_is, bare_state, stands, sound_of, free_in_context, completes_bare, means_bound, kept, entry_means, context_record, bare_means}
 
-module _ (c : Course) (proper : IsProper c) (makes_fairly : MakeFairly c.functions) (s : State) (store : Uid → Found Made) (start : IsOpened (session_of c) s) (stands_on : IsKnownStore c s store) (w : World) (complete : CompletesNow (session_of c) s w) where
+module _ (c : Course) (admitted : IsAdmitted c) (makes_fairly : MakeFairly c.functions) (s : State) (store : Uid → Found Made) (start : IsOpened (session_of c) s) (stands_on : IsKnownStore c s store) (w : World) (complete : CompletesNow (session_of c) s w) where
   abbrev x : Setup
   x = session_of c
 
@@ -88,7 +88,7 @@ module _ (c : Course) (proper : IsProper c) (makes_fairly : MakeFairly c.functio
   taken = stands x start.opened s start.bound
 
   calls_nothing : LeavesNothing w.table
-  calls_nothing = subst LeavesNothing (sym (complete.request).table) (leaves_nothing c proper)
+  calls_nothing = subst LeavesNothing (sym (complete.request).table) (leaves_nothing c admitted)
 
   well_valued : (n : Text) (o : Option Made) → env n ≡ o → IsMadeWell w.table o
   well_valued n None e = tt
@@ -126,7 +126,7 @@ module _ (c : Course) (proper : IsProper c) (makes_fairly : MakeFairly c.functio
   well_found false = tt
 
   well_apart : AllMadeWell (with_functions x.functions)
-  well_apart = record { context = tt; values = λ n. tt; store = λ u. well_found (is_uid u); calls = makes_fairly.well }
+  well_apart = record { context = tt; values = λ n. tt; store = λ u. well_found (is_uid u); calls = (makes_well x.functions makes_fairly) }
 
   module _ (fs : TreeFields) (is : x.start.context ≡ residual_fields fs) (made : (has_unknown (record_literal fs) ≡ true) × (is_restricted (record_literal fs) ≡ true)) (v : V) (means : PartIs w (record_literal fs) v) where
     abbrev fields : Tree
@@ -158,17 +158,17 @@ module _ (c : Course) (proper : IsProper c) (makes_fairly : MakeFairly c.functio
 
     left_means : (r : Tree) → context_left x.functions s fs ≡ residual r → PartIs (named w) r v
     left_means r e =
-        let stand : StandsFor apart put (residual r) = subst (StandsFor apart put) e (stood.residuals_stand (with_functions x.functions) makes_fairly.agrees well_apart 512 put apart completes_apart put_fits) in
+        let stand : StandsFor apart put (residual r) = subst (StandsFor apart put) e (stood.residuals_stand (with_functions x.functions) (makes_fairly.answers).agrees well_apart 512 put apart completes_apart put_fits) in
         let open_one : Clean put (residual r) = subst (Clean put) e (evaluated_clean x.functions 512 put (substituted_restricted env fields clear)) in
         let here : Means apart r (val v) = stand (val v) put_apart in
         let back = sym (no_store (record (named w) { slots = λ z. None }) (λ u. missing) r open_one.1) ∙ means_outcome apart r (val v) here in (
           value_with_slots (named w) r v (outcome_means (record (named w) { slots = λ z. None }) r (val v) back),
-          stood.residuals_fit (with_functions x.functions) makes_fairly.agrees well_apart 512 put r e apart completes_apart put_fits,
+          stood.residuals_fit (with_functions x.functions) (makes_fairly.answers).agrees well_apart 512 put r e apart completes_apart put_fits,
         )
 
   value_known : (y : V) → known_context (context_now x.functions s x.start.context) ≡ Some y → w.context ≡ Some y
   value_known y e =
-      let same = legal.context_same c proper mine w taken (sound_of x start.opened s.bound start.bound) (completes_bare x start.opened s start.bound w complete) x.start.context refl proper.context (complete.request).context in
+      let same = legal.context_same c admitted mine w taken (sound_of x start.opened s.bound start.bound) (completes_bare x start.opened s start.bound w complete) x.start.context refl admitted.context (complete.request).context in
       when_is (context_known (moment_of mine) x.start.context) w.context y (sym e ∙ same)
 
   open_means : ContextMeans (named w) unknown_context w.context
@@ -206,7 +206,7 @@ module _ (c : Course) (proper : IsProper c) (makes_fairly : MakeFairly c.functio
         principal = entry (codes "principal") x.start.principal w.principal (complete.request).principal (λ m h. h.1.0 refl) refl;
         action = entry (codes "action") x.start.action w.action (complete.request).action (λ m h. h.1.1 refl) refl;
         resource = entry (codes "resource") x.start.resource w.resource (complete.request).resource (λ m h. h.1.2 refl) refl;
-        context = context_now_means x.start.context refl proper.context (complete.request).context;
+        context = context_now_means x.start.context refl admitted.context (complete.request).context;
         slots = λ z. refl;
         unknowns = kept x start.opened s start.bound w complete;
         table = (complete.request).table;
@@ -219,13 +219,13 @@ module _ (c : Course) (proper : IsProper c) (makes_fairly : MakeFairly c.functio
       (λ p k.
       let u = with_slots w p.bindings in
       condition_asked righted p
-      ∙ same_meant u (name_means w) calls_nothing (condition p) (none_unknown (condition p) (none_has_unknowns c proper p k) (λ n a. bound_value (name_means w n) ≡ bound_value (u.unknowns n)))
+      ∙ same_meant u (name_means w) calls_nothing (condition p) (none_unknown (condition p) (none_has_unknowns c admitted p k) (λ n a. bound_value (name_means w n) ≡ bound_value (u.unknowns n)))
       ∙ sym (condition_asked w p))
 
   -- what is known is well made
   context_left_well : (fs : TreeFields) → is_restricted (record_literal fs) ≡ true → (l : Left) → context_left x.functions s fs ≡ l → IsContextMadeWell x.functions.table (left_context l)
   context_left_well fs r (value_left (made_record gs)) e =
-      evaluated_well (with_functions x.functions) (λ n. refl) makes_fairly.well 512 (substituted env (record_literal fs)) (substituted_restricted env (record_literal fs) (none_is (offence (record_literal fs)) r)) (made_record gs) e
+      evaluated_well (with_functions x.functions) (λ n. refl) (makes_well x.functions makes_fairly) 512 (substituted env (record_literal fs)) (substituted_restricted env (record_literal fs) (none_is (offence (record_literal fs)) r)) (made_record gs) e
   context_left_well fs r (value_left m) e = tt
   context_left_well fs r (residual (record_literal gs)) e = tt
   context_left_well fs r (residual t) e = tt
@@ -246,20 +246,20 @@ module _ (c : Course) (proper : IsProper c) (makes_fairly : MakeFairly c.functio
   value_well n (Some m) e = (taken_value x mine taken n m e).1
 
   pub all_well : AllMadeWell scope
-  all_well = record { context = context_well x.start.context refl proper.context; values = λ n. value_well n (env n) refl; store = stands_on.well; calls = makes_fairly.well }
+  all_well = record { context = context_well x.start.context refl admitted.context; values = λ n. value_well n (env n) refl; store = stands_on.well; calls = (makes_well x.functions makes_fairly) }
 
   pub decision_holds : (d : Decision) → decision_in_session (response_of scope c.submission.limit c.submission.policies) ≡ Some d → d ≡ decision_of w c.submission.policies
   decision_holds d e =
-      decisions.given scope makes_fairly.agrees all_well c.submission.limit c.submission.policies d e righted completes_now
-      (each_all (λ p. FitsAnnotations righted (condition p)) c.submission.policies (λ p k. (each_in (λ n a. Fits a (righted.unknowns n)) (condition p)).1 (none_unknown (condition p) (none_has_unknowns c proper p k) (λ n a. Fits a (righted.unknowns n)))))
+      decisions.given scope (makes_fairly.answers).agrees all_well c.submission.limit c.submission.policies d e righted completes_now
+      (each_all (λ p. FitsAnnotations righted (condition p)) c.submission.policies (λ p k. (each_in (λ n a. Fits a (righted.unknowns n)) (condition p)).1 (none_unknown (condition p) (none_has_unknowns c admitted p k) (λ n a. Fits a (righted.unknowns n)))))
       ∙ ap (λ a. a.decision) answers_alike
 
-pub sessions_are_completed : (c : Course) (s : State) (store : Uid → Found Made) → IsProper c → MakeFairly c.functions → IsOpened (session_of c) s → IsKnownStore c s store
+pub sessions_are_completed : (c : Course) (s : State) (store : Uid → Found Made) → IsAdmitted c → MakeFairly c.functions → IsOpened (session_of c) s → IsKnownStore c s store
     → (w : World) → CompletesNow (session_of c) s w
     → (v : World) × evaluator.Completes v (scope_now (session_of c) s store) × (answer_of v c.submission.policies ≡ answer_of w c.submission.policies)
-sessions_are_completed c s store proper fair start known w complete =
-    (righted c proper fair s store start known w complete, completes_now c proper fair s store start known w complete, answers_alike c proper fair s store start known w complete)
+sessions_are_completed c s store admitted fair start known w complete =
+    (righted c admitted fair s store start known w complete, completes_now c admitted fair s store start known w complete, answers_alike c admitted fair s store start known w complete)
 
-pub evaluated_decisions_hold : (c : Course) (s : State) (store : Uid → Found Made) → IsProper c → MakeFairly c.functions → IsOpened (session_of c) s → IsKnownStore c s store
+pub evaluated_decisions_hold : (c : Course) (s : State) (store : Uid → Found Made) → IsAdmitted c → MakeFairly c.functions → IsOpened (session_of c) s → IsKnownStore c s store
     → (d : Decision) → decision_in_session (response_of (scope_now (session_of c) s store) c.submission.limit c.submission.policies) ≡ Some d → MayDecide (session_of c) c.submission.policies s (Some d)
-evaluated_decisions_hold c s store proper fair start known d e w complete = decision_holds c proper fair s store start known w complete d e
+evaluated_decisions_hold c s store admitted fair start known d e w complete = decision_holds c admitted fair s store start known w complete d e

@@ -16,11 +16,17 @@ use Rattle.cedar_evaluator_model.specs.Known.{known_world}
 use Rattle.cedar_evaluator_model.specs.Scope.{Scope, MadeCalled, makes, faults, leaves_unknown, Left, value_left, residual, stopped}
 use Rattle.cedar_evaluator_model.specs.Steps.{errs, mapped, answer_left, called_left, made_members, Pieces, pieces, halted, with_piece}
 use Rattle.cedar_evaluator_model.specs.OfLaws.WellMade.{IsWellMade}
+use Rattle.cedar_evaluator_model.proofs.Represented.{well_of_represented}
 use Rattle.cedar_evaluator_model.proofs.GivenReads.{length_bare}
 use Rattle.cedar_evaluator_model.proofs.Named.{call_of, field_names, field_trees, fields_named}
 use Rattle.cedar_evaluator_model.proofs.Residuals.Lists.{EachWellMade, stands_set, fields_well}
+use Rattle.cedar_gate_model.specs.Bundle.{Functions}
+use Rattle.cedar_gate_model.specs.RunsAnswer.{MakeFairly}
 use Rattle.cedar_gate_model.proofs.Reading.Values.{no_feature_split, feature_of, parts_of, listed_same, fields_same}
 use Rattle.cedar_gate_model.proofs.Runs.Restricted.{mapped_some, comes_of}
+
+pub makes_well : (x : Functions) → MakeFairly x → (f : Name) (ms : List Made) (m : Made) → IsTaken x.table f (map bare ms) → x.calls f ms ≡ makes m → IsWellMade x.table m
+makes_well x h f ms m t e = well_of_represented x.table m (h.values f ms m e) ((h.answers).represented f ms m t e)
 
 module _ (s : Scope) (none : (n : Text) → s.values n ≡ None) (well : (f : Name) (ms : List Made) (m : Made) → IsTaken s.table f (map bare ms) → s.calls f ms ≡ makes m → IsWellMade s.table m) where
   abbrev IsWell : Left → Type 0

@@ -34,11 +34,13 @@ holds u e q = all_each (λ (d : Uid × Entity V). holds_values d.1) three_and_z 
 
 pub loaded_proper : IsProper loaded_course
 loaded_proper = record {
-  accepted = level_two_accepted;
-  fair = record { table = refl; fair = λ f s vs e. cc; typed = refl; agrees = λ f ms t. (let e = t.1 in cc) };
-  context = tt;
+  admitted = record {
+    accepted = level_two_accepted;
+    fair = record { table = refl; fair = λ f s vs e. cc; typed = refl; agrees = λ f ms t. (let e = t.1 in cc) };
+    context = tt;
+    store = holds;
+  };
   values = λ b k. absurd (contains_none b k);
-  store = holds;
 }
 
 abbrev both_rounds : List Entry

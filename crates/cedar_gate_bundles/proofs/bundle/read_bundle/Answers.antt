@@ -10,6 +10,7 @@ use Rattle.cedar_gate_bundles.specs.Bundles.{submission_of}
 use Rattle.cedar_evaluator_requests.specs.Views.{request_of}
 use Rattle.cedar_gate_runs.specs.Steps.{step_of}
 use Rattle.cedar_gate_bundles.proofs.Unread.{handed_on, steps_unread}
+use Rattle.cedar_gate_runs.proofs.Proper.{fairly_of}
 use Rattle.cedar_gate_bundles.proofs.Written.{asked_well}
 use Rattle.cedar_gate_bundles.proofs.ByTable.{store_unread, bundle_is}
 use Rattle.cedar_gate_bundles.proofs.bundle.read_bundle.Goals as goal
@@ -27,7 +28,7 @@ pub returns-clause-context_written : goal.returns-clause-context_written
 returns-clause-context_written g c = λ x a fair.
     let d = view c.args.value.now in
     let asked : required (codes "request") (request_read x) d ≡ Some (request_of c.in_ok-request.request) = ap (λ o. given o (request_read x)) c.in_ok-required.ensures.ok ∙ c.in_ok-request.ensures.ok x a in
-    asked_well x fair d (request_of c.in_ok-request.request) asked
+    asked_well x (fairly_of x (a.answered).values fair) d (request_of c.in_ok-request.request) asked
 
 pub returns-in_err-store-clause-unreadable : goal.returns-in_err-store-clause-unreadable
 returns-in_err-store-clause-unreadable g c =

@@ -5,10 +5,11 @@ use Rattle.cedar_store_entities.specs.Views.{entity_pair}
 use Rattle.cedar_gate_model.specs.Bundle.{Functions}
 use Rattle.cedar_gate_model.specs.Reading.{list_of}
 use Rattle.cedar_gate_model.specs.ReadingRequest.{entity_read}
-use Rattle.cedar_gate_model.specs.RunsAnswer.{MakeFairly}
+use Rattle.cedar_gate_model.specs.RunsAnswer.{AnswerFairly}
 use Rattle.cedar_gate_expressions.specs.declared.fault.ReadFault.TheVariants.{Unreadable}
 use Rattle.cedar_gate_bundles.specs.Written.{entity_read_made, entity_pair_made, AreWritten}
 use Rattle.cedar_gate_bundles.proofs.Kept.{if_ok, if_err, listed, unlisted}
+use Rattle.cedar_gate_runs.proofs.Proper.{fairly_of}
 use Rattle.cedar_gate_bundles.proofs.Written.{list_well}
 use Rattle.cedar_gate_bundles.proofs.stores.read_entities.Goals as goal
 
@@ -30,5 +31,5 @@ pub returns-clause-written : goal.returns-clause-written
 returns-clause-written g c =
     let d = view c.args.value.now in
     if_ok (λ es. (x : Functions) → AgreesWith c.args.table.now x → list_of (entity_read_made x) d ≡ Some (map entity_pair_made es.items))
-    (λ es. (x : Functions) → AgreesWith c.args.table.now x → MakeFairly x → AreWritten x.table (map entity_pair_made es.items))
-    c.read_list.result (λ es h x a fair. list_well x fair d (map entity_pair_made es.items) (h x a)) c.read_list.ensures.ok
+    (λ es. (x : Functions) → AgreesWith c.args.table.now x → AnswerFairly x → AreWritten x.table (map entity_pair_made es.items))
+    c.read_list.result (λ es h x a fair. list_well x (fairly_of x (a.answered).values fair) d (map entity_pair_made es.items) (h x a)) c.read_list.ensures.ok

@@ -5,7 +5,7 @@ use Rattle.cedar_expr_model.specs.Restricted.{is_restricted}
 use Rattle.cedar_expr_trees.specs.Trees.{tree_of}
 use Rattle.cedar_gate_model.specs.Bundle.{Functions}
 use Rattle.cedar_gate_model.specs.ReadingValue.{value_read, if_value, left_of_restricted}
-use Rattle.cedar_evaluator_restricted_exprs.specs.Lefts.{left_seen}
+use Rattle.cedar_evaluator_errors.specs.Outcomes.{left_seen}
 use Rattle.cedar_gate_bundles.proofs.ByTable.{value_of_tree}
 use Rattle.cedar_gate_bundles.proofs.Parted.{stopped_value}
 use Rattle.cedar_gate_bundles.proofs.Unread.{handed_on}

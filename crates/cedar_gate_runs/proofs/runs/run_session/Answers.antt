@@ -2,6 +2,7 @@ use Rattle.std.proofs.Common.{Some, refl, sym, ap, ◌∙◌, subst}
 use Rattle.cedar_gate_model.specs.Session.{at_start}
 use Rattle.cedar_gate_runs.proofs.Asked.{asked_first, keeps_answered}
 use Rattle.cedar_gate_runs.proofs.Ended.{host_given, steps_represented, run_answers, run_stops}
+use Rattle.cedar_gate_runs.proofs.Proper.{proper_of, fairly_of}
 use Rattle.cedar_gate_runs.proofs.Losing.{so_far, rounds_once, stopped_once}
 use Rattle.cedar_gate_runs.specs.Lost.{AskedSoFar}
 use Rattle.cedar_gate_runs.specs.Transcripts.{entries_of}
@@ -17,9 +18,11 @@ returns-in-Ok-clause-run g c = λ d by.
     (c.in-Ok.ensures.answered d at_start by.session.stands (host_given stands g.H.Host.honest g.H.Host.store d c.args.session c.args.steps.items c.args.host.now by) (steps_represented stands d c.args.session c.args.steps.items by.session))
 
 pub returns-in-Ok-clause-promises : goal.returns-in-Ok-clause-promises
-returns-in-Ok-clause-promises g c = λ d by proper fair.
+returns-in-Ok-clause-promises g c = λ d by admitted fair.
     let t : Transcript = record { entries = c.follow.new.entries; answer = Some c.in-Ok.response } in
-    keeps_answered c.runs_keep_the_headline.ensures d proper fair t (returns-in-Ok-clause-run g c d by)
+    let stands = g.E.SessionCalls.stands in
+    let values = g.met.E.SessionCalls.makes_values d at_start c.args.session by.session.stands in
+    keeps_answered c.runs_keep_the_headline.ensures d (proper_of stands d c.args.session c.args.steps.items by.session admitted) (fairly_of d.functions values fair) t (returns-in-Ok-clause-run g c d by)
 
 pub returns-in-Ok-clause-host : goal.returns-in-Ok-clause-host
 returns-in-Ok-clause-host g c = record {
@@ -30,8 +33,8 @@ returns-in-Ok-clause-host g c = record {
 pub returns-in-Ok-clause-asked : goal.returns-in-Ok-clause-asked
 returns-in-Ok-clause-asked g c = λ d by. record {
   last = tt;
-  once = λ proper fair.
-      let k = returns-in-Ok-clause-promises g c d by proper fair in
+  once = λ admitted fair.
+      let k = returns-in-Ok-clause-promises g c d by admitted fair in
       rounds_once d (g.H.Host.asked c.args.host.now) _ (entries_of c.follow.new.entries.items) _ k.2 (returns-in-Ok-clause-host g c).lists;
 }
 
@@ -55,10 +58,20 @@ returns-clause-asked g c = λ d by.
     let last = subst (λ es. AskedSoFar d (g.H.Host.asked c.args.host.now) (g.H.Host.asked c.follow.new.host) es) (sym c.stopped.ensures.entries)
     (so_far stands d c.args.session c.args.steps.items by.session _ _ _ _ (ap entries_of c.new-entries.ensures.items)
     (c.in-Err.ensures.last d at_start (g.H.Host.asked c.args.host.now) by.session.stands (host_given stands g.H.Host.honest g.H.Host.store d c.args.session c.args.steps.items c.args.host.now by) (steps_represented stands d c.args.session c.args.steps.items by.session) (asked_first _ _ (ap entries_of c.new-entries.ensures.items)))) in
-    record { last = last; once = λ proper fair. stopped_once c.moments_keep.ensures.keep c.moments_keep.ensures.wanted d _ _ _ proper fair last }
+    let values = g.met.E.SessionCalls.makes_values d at_start c.args.session by.session.stands in
+    record {
+      last = last;
+      once = λ admitted fair.
+          let proper = proper_of stands d c.args.session c.args.steps.items by.session admitted in
+          stopped_once c.moments_keep.ensures.keep c.moments_keep.ensures.wanted d _ _ _ proper (fairly_of d.functions values fair) last;
+    }
 
 pub returns-clause-promises : goal.returns-clause-promises
-returns-clause-promises g c = λ d by proper fair. let h = (returns-clause-asked g c d by).last in c.moments_keep.ensures.keep d _ h.state proper fair h.came
+returns-clause-promises g c = λ d by admitted fair.
+    let stands = g.E.SessionCalls.stands in
+    let values = g.met.E.SessionCalls.makes_values d at_start c.args.session by.session.stands in
+    let h = (returns-clause-asked g c d by).last in
+    c.moments_keep.ensures.keep d _ h.state (proper_of stands d c.args.session c.args.steps.items by.session admitted) (fairly_of d.functions values fair) h.came
 
 pub returns-clause-no_answer : goal.returns-clause-no_answer
 returns-clause-no_answer g c = c.stopped.ensures.no_answer
