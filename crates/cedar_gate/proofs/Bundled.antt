@@ -88,13 +88,13 @@ accepted_prints {B} {F} {γ} b g t (Ok p) accepted held same warned h = λ x fai
     (h (course_of x (bundle_of x b)) (record {
       course = record {
         submission = held x fair.agrees;
-        table = proper.fair.table;
+        table = proper.admitted.fair.table;
         fair = subst (λ (y : Extensions B F γ). IsFair y x) (sym same) fair;
         start = refl;
         context = context_represented x.table (request_of b.request).context well.context;
         steps = refl;
         bound = λ v k. represented_of_well x.table v.1 (proper.values v k);
-        store = proper.store;
+        store = proper.admitted.store;
       };
       warned = warned x fair.agrees;
       store = store_is x b well.store;

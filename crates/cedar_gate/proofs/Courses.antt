@@ -1,33 +1,21 @@
--- What a gate was handed is accepted; courses at it are proper, and its sessions stand at their start.
-use Rattle.std.proofs.Common.{◌≡◌, ◌∙◌, ℕ, List, [], ◌∷◌, true, sym, ap, subst}
-use Rattle.std.specs.Prelude.{Contains}
-use Rattle.std.specs.Rc.{rc_str_bytes}
-use Rattle.cedar_evaluator_model.proofs.Represented.{well_of_represented}
+-- What a gate was handed is accepted; courses at it are admitted, and its sessions stand at their start.
+use Rattle.std.proofs.Common.{◌≡◌, ◌∙◌, ℕ, List, true, sym, ap, subst}
 use Rattle.cedar_evaluator_model.specs.Response.{PartialRequest}
 use Rattle.cedar_evaluator_requests.specs.Views.{request_of}
 use Rattle.cedar_evaluator_requests.specs.declared.request.Request.{Request}
 use Rattle.cedar_expr_functions.specs.Tables.{table_of, functions_of, ordered_of}
 use Rattle.cedar_expr_functions.specs.declared.extensions.Extensions.{Extensions}
-use Rattle.cedar_expr_model.proofs.Lists.{contains_cases, contains_none}
-use Rattle.cedar_expr_model.specs.Canonical.{is_canonical}
-use Rattle.cedar_expr_model.specs.Made.{Made, bare}
-use Rattle.cedar_expr_model.specs.Name.{Name, Text}
+use Rattle.cedar_expr_model.specs.Name.{Name}
 use Rattle.cedar_expr_model.specs.Table.{Table, Signature, all_typed}
 use Rattle.cedar_expr_model.specs.OfLaws.Fair as tables
-use Rattle.cedar_expr_values.specs.Extensions.{extension_of}
-use Rattle.cedar_expr_values.specs.Members.{value_kept}
-use Rattle.cedar_expr_values.specs.Values.{made}
 use Rattle.cedar_schema_model.specs.Declarations.{Declarations}
 use Rattle.cedar_schema_model.specs.Resolved.{schema_of}
 use Rattle.cedar_store_model.specs.Policy.{Policy}
 use Rattle.cedar_gate_model.specs.Acceptance.{Submission, IsAccepted}
-use Rattle.cedar_gate_model.specs.RunLaws.{bindings_in}
-use Rattle.cedar_gate_model.specs.RunsAnswer.{Course, session_of, IsProper}
+use Rattle.cedar_gate_model.specs.RunsAnswer.{Course, session_of, IsAdmitted}
 use Rattle.cedar_gate_model.specs.RunsAsk.{IsMadeContext}
 use Rattle.cedar_gate_rules.specs.Limit.{levels_of}
-use Rattle.cedar_gate_runs.specs.Steps.{steps_of}
 use Rattle.cedar_gate_runs.specs.declared.steps.Step.{Step}
-use Rattle.cedar_gate_runs.specs.declared.steps.Step.TheVariants.{Load, Bind, Decide}
 use Rattle.cedar_gate_sessions.specs.Sessions.{IsSetup}
 use Rattle.cedar_gate.specs.Courses.{IsCourseOf}
 use Rattle.cedar_gate.specs.Gates.{IsOf, IsSetupOf, accepted_in, declared_in, policies_held, table_held, level_held, limit_held}
@@ -51,14 +39,6 @@ submission_is s d ps t level limit ed ep et el em =
     let by_limit : ℕ → Submission = λ x. record { declarations = d; policies = ps; table = t; level = level; limit = x } in
     ap by_declarations ed ∙ ap by_policies ep ∙ ap by_table et ∙ ap by_level el ∙ ap by_limit em
 
--- the sets of what steps bind rise
-bound_kept : (given : List Step) (b : Text × Made) → Contains (bindings_in (steps_of given)) b → is_canonical (bare b.1) ≡ true
-bound_kept [] b k = absurd (contains_none b k)
-bound_kept (Load ∷ ss) b k = bound_kept ss b k
-bound_kept (Bind n v ∷ ss) b k =
-    contains_cases (is_canonical (bare b.1) ≡ true) (rc_str_bytes n, made extension_of v) (bindings_in (steps_of ss)) b k (λ e. subst (λ (z : Text × Made). is_canonical (bare z.1) ≡ true) e (value_kept extension_of v)) (bound_kept ss b)
-bound_kept (Decide ∷ ss) b k = bound_kept ss b k
-
 module _ {B : _} {F : _} {γ : _} (g : Gate B F γ) where
   -- what the gate was handed is accepted
   pub accepted_at : (s : Submission) → IsOf g s → IsAccepted s
@@ -67,9 +47,9 @@ module _ {B : _} {F : _} {γ : _} (g : Gate B F γ) where
       subst IsAccepted (sym (submission_is s (declared_in g) _ t (level_held g) (levels_of (limit_held g)) h.handed.declarations h.handed.policies
       (table_is s.table (functions_of (table_held g)) (ordered_of (table_held g)) h.handed.functions h.handed.ordered) h.level h.handed.limit)) (g.accepted s.table.answers)
 
-  -- a course at the gate is proper
-  pub proper_at : (q : Request) (given : List Step) (c : Course) → IsMadeContext (request_of q).context → IsCourseOf g q given c → IsProper c
-  proper_at q given c made h = record {
+  -- a course at the gate is admitted
+  pub admitted_at : (q : Request) (given : List Step) (c : Course) → IsMadeContext (request_of q).context → IsCourseOf g q given c → IsAdmitted c
+  admitted_at q given c made h = record {
     accepted = accepted_at c.submission h.submission;
     fair = record {
       table = h.table;
@@ -78,7 +58,6 @@ module _ {B : _} {F : _} {γ : _} (g : Gate B F γ) where
       agrees = h.fair.fair.agrees;
     };
     context = subst (λ (r : PartialRequest). IsMadeContext r.context) h.start made;
-    values = λ b k. well_of_represented c.functions.table b.1 (bound_kept given b (subst (λ zs. Contains (bindings_in zs) b) (sym h.steps) k)) (h.bound b k);
     store = h.store;
   }
 

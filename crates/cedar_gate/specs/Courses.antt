@@ -11,7 +11,7 @@ use Rattle.cedar_evaluator_requests.specs.Views.{request_of}
 use Rattle.cedar_evaluator_requests.specs.declared.request.Request.{Request}
 use Rattle.cedar_evaluator_restricted_exprs.specs.Answers.{AgreesWith}
 use Rattle.cedar_gate_model.specs.Bundle.{Functions}
-use Rattle.cedar_gate_model.specs.RunsAnswer.{Course, MakeFairly}
+use Rattle.cedar_gate_model.specs.RunsAnswer.{Course, AnswerFairly}
 use Rattle.cedar_gate_model.specs.Session.{at_start, OpenRefusal, OpenFault}
 use Rattle.cedar_gate_runs.specs.Courses.{BindRepresented, IsHost}
 use Rattle.cedar_gate_runs.specs.Hosts.{Answers}
@@ -20,10 +20,10 @@ use Rattle.cedar_gate_runs.specs.declared.steps.Step.{Step}
 use Rattle.cedar_gate.specs.Gates.{IsOf, table_held}
 use Rattle.cedar_gate.specs.declared.gate.Gate.{Gate}
 
--- The table is fair: it agrees with these functions, which make their values fairly.
+-- The table is fair: it agrees with these functions, which answer fairly.
 pub record IsFair {B : _} {F : _} {g : _} (t : Extensions B F g) (x : Functions) : Type 0 where
   pub agrees : AgreesWith t x
-  pub fair : MakeFairly x
+  pub fair : AnswerFairly x
 
 -- The course is one of a request and steps at the gate, by functions by which the gate's table is fair. The extension values of
 -- the context and of the steps are what the calls of its table give, and the store holds values alone.

@@ -72,6 +72,8 @@ impl GateCalls for Gate<'_, '_, '_> {
 
     ghost suits = { IsSetupOf };
 
+    ghost makes_values = { λ g x h. h.agrees.answered.values };
+
     fn schema_is(&self) {}
 
     fn policies(&self) -> &[Policy] {

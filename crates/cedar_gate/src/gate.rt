@@ -25,6 +25,8 @@ use cedar_store_policies::Policy;
 use cedar_typechecker::SchemaAndFunctions;
 use cedar_typechecker_model::alike_laws::{seen_schemas_answer_alike, verdicts_are_alike};
 use std::alloc::{AllocError, Global};
+use std::fmt;
+use std::fmt::{Debug, Formatter, Write};
 
 /// What the gate accepted: fragments of a schema with what is built of them, policies, extension functions, a level and a limit on
 /// nesting; and the ids of the policies that it warns of.
@@ -40,6 +42,17 @@ pub struct Gate<'f, 't, 'e> {
     ghost closed: { ClosedByTests (schema_kept schema) },
     ghost kept: { IsKeptByTests (schema_of (declared_by fragments.now)) (schema_kept schema) },
     ghost accepted: { (answers : ModelName → List V → Called) → IsAccepted (submission_with (declared_by fragments.now) policies.items (table_of table.now answers) level limit) },
+}
+
+impl Debug for Gate<'_, '_, '_> {
+    fn fmt<W: Write>(&self, f: &mut Formatter<W>) -> fmt::Result {
+        write!(
+            f,
+            "<Gate with {} policies at level {}>",
+            self.policies.len(),
+            self.level
+        )
+    }
 }
 
 impl<'f, 't, 'e> Gate<'f, 't, 'e> {

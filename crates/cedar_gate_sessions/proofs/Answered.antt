@@ -16,7 +16,7 @@ use Rattle.cedar_evaluator_model.specs.Response.{response_of}
 use Rattle.cedar_gate_sessions.specs.Answers.{answered}
 use Rattle.cedar_gate_sessions.specs.Laws.{SessionsAnswer, Conform, loaded_store}
 use Rattle.cedar_gate_model.specs.Runs.{DecidesInPart}
-use Rattle.cedar_gate_model.specs.RunsAnswer.{Course, session_of, IsProper, IsOpened, IsKnownStore}
+use Rattle.cedar_gate_model.specs.RunsAnswer.{Course, session_of, IsAdmitted, IsOpened, IsKnownStore}
 use Rattle.cedar_gate_model.specs.Session.{Setup, State, scope_now, world_now, NothingIsWanted, AnswerRefusal, AnswerFault}
 use Rattle.cedar_gate_sessions.proofs.Steady.{IsAlike, same_response, same_answered}
 
@@ -38,10 +38,10 @@ module _ (c : Course) (s : State) (store steadied : Uid → Found Made) (alike :
       (steadied, known, e ∙ ap (bounds_in_session ps) (same_response (scope_now x s store) steadied alike x.limit ps) ∙ ap (λ qs. bounds_in_session qs (response_of (scope_now x s steadied) x.limit qs)) is)
 
   -- what it leaves is the answer, where the steady one is what was loaded
-  pub answer_told : IsProper c → IsOpened (session_of c) s → SessionsAnswer → Conform x s → NothingIsWanted x s → ((f : AnswerRefusal) → AnswerFault x s f → ⊥) → ((u : Uid) → known_found (steadied u) ≡ loaded_store x s u)
+  pub answer_told : IsAdmitted c → IsOpened (session_of c) s → SessionsAnswer → Conform x s → NothingIsWanted x s → ((f : AnswerRefusal) → AnswerFault x s f → ⊥) → ((u : Uid) → known_found (steadied u) ≡ loaded_store x s u)
       → (r : Concrete) → r ≡ answered (scope_now x s store) x.limit ps → r ≡ as_concrete (answer_of (world_now x s) c.submission.policies)
-  answer_told proper opened law conform nothing fine known r e =
-      e ∙ same_answered (scope_now x s store) steadied alike x.limit ps ∙ ap (λ qs. answered (scope_now x s steadied) x.limit qs) is ∙ law c s steadied proper opened conform nothing fine known
+  answer_told admitted opened law conform nothing fine known r e =
+      e ∙ same_answered (scope_now x s store) steadied alike x.limit ps ∙ ap (λ qs. answered (scope_now x s steadied) x.limit qs) is ∙ law c s steadied admitted opened conform nothing fine known
 
 -- what is there is so for each
 pub ok_each : {A E X Y D : Type 0} (Z : X → Y → Type 0) (P : X → Y → A → Type 0) (r : Result A E) → ((x : X) (y : Y) → Z x y → D → IfOk r (P x y)) → IfOk r (λ a. (x : X) (y : Y) → Z x y → D → P x y a)

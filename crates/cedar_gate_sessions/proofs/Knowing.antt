@@ -24,7 +24,10 @@ use Rattle.cedar_schema_model.specs.Schema as model
 use Rattle.cedar_evaluator_model.specs.Known.{known_found, known_entity, known_parts, known_part}
 use Rattle.cedar_evaluator_model.specs.OfLaws.WellMade.{IsFoundMadeWell}
 use Rattle.cedar_evaluator_reads.specs.Scopes.{found_kept, store_of}
-use Rattle.cedar_gate_sessions.proofs.Represented.{context_is_well}
+use Rattle.cedar_evaluator_model.proofs.Represented.{context_well}
+use Rattle.cedar_evaluator_model.specs.OfLaws.WellMade.{IsContextCanonical}
+use Rattle.cedar_evaluator_model.specs.Response.{PartialRequest}
+use Rattle.cedar_evaluator_reads.proofs.Canonical.{request_canonical}
 use Rattle.cedar_gate_sessions.specs.Laws.{loaded_store}
 use Rattle.cedar_gate_model.specs.RunsAnswer.{Course, session_of, IsKnownStore}
 use Rattle.cedar_gate_model.specs.Session.{Setup, State, known_now}
@@ -150,5 +153,5 @@ pub known_store : {G : Type 0} (suits : G → Setup → Type 0) (c : Course) (s 
 known_store suits c s d at = record {
   known = λ u. steady_known (session_of c) s d.loaded.items at.loaded u (was_asked d) ((at.near).asked u);
   well = λ u. steady_written (session_of c) s d.loaded.items at.loaded u (was_asked d) ((at.near).asked u);
-  context = context_is_well (session_of c).functions.table d.start (session_of c).start (at.setup).start (at.setup).represented;
+  context = context_well (session_of c).functions.table (session_of c).start.context (subst (λ (q : PartialRequest). IsContextCanonical q.context) (at.setup).start (request_canonical d.start)) (at.setup).represented;
 }

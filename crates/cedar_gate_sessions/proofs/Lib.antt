@@ -9,7 +9,6 @@ pub mod Lookups
 pub mod Opened
 pub mod Parts
 pub mod Refusing
-mod Represented
 pub mod Scopes
 pub mod Standing
 pub mod Starting

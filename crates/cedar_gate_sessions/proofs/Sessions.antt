@@ -20,7 +20,7 @@ use Rattle.cedar_evaluator_model.specs.Laws.{WithinLimit, as_concrete}
 use Rattle.cedar_evaluator_model.specs.OfLaws.Whole.{NothingUnknown, HoldsValues}
 use Rattle.cedar_evaluator_model.specs.Scope.{Scope}
 use Rattle.cedar_gate_model.specs.Acceptance.{Submission, IsAccepted, repeated_policy}
-use Rattle.cedar_gate_model.specs.RunsAnswer.{Course, session_of, IsProper, IsOpened}
+use Rattle.cedar_gate_model.specs.RunsAnswer.{Course, session_of, IsAdmitted, IsOpened}
 use Rattle.cedar_gate_model.specs.Session.{Setup, State, scope_now, world_now, whole_store, NothingIsWanted, AnswerRefusal, AnswerFault}
 use Rattle.cedar_gate_model.proofs.Gate.Accepting.{acceptance_reads}
 use Rattle.cedar_gate_model.proofs.Runs.Answering.{loaded_answers}
@@ -52,7 +52,7 @@ settled_if : (b : Bool) (f : Found V) → IsSettled f → IsSettled (cond b f mi
 settled_if true f h = h
 settled_if false f h = tt
 
-module _ (c : Course) (s : State) (store : Uid → Found Made) (proper : IsProper c) (opened : IsOpened (session_of c) s) (conform : Conform (session_of c) s)
+module _ (c : Course) (s : State) (store : Uid → Found Made) (admitted : IsAdmitted c) (opened : IsOpened (session_of c) s) (conform : Conform (session_of c) s)
     (nothing : NothingIsWanted (session_of c) s) (fine : (f : AnswerRefusal) → AnswerFault (session_of c) s f → ⊥) (same : (u : Uid) → known_found (store u) ≡ loaded_store (session_of c) s u) where
   abbrev x : Setup
   x = session_of c
@@ -64,15 +64,15 @@ module _ (c : Course) (s : State) (store : Uid → Found Made) (proper : IsPrope
   stands = let t = stands_of x opened.opened s.bound opened.bound in record { values = t.values; each = t.each; conform = conform }
 
   settled : (u : Uid) → IsSettled (known_found (store u))
-  settled u = subst IsSettled (sym (same u)) (settled_if (declares_action x.schema u || list_any (uid_eq u) s.asked) (whole_store x u) (store_settled x proper.store u))
+  settled u = subst IsSettled (sym (same u)) (settled_if (declares_action x.schema u || list_any (uid_eq u) s.asked) (whole_store x u) (store_settled x admitted.store u))
 
   known : NothingUnknown scope
   known =
       let p = parts_there x s stands nothing fine in
-      record { principal = p.0; action = p.1; resource = p.2; context = p.3; store = λ u. values_of_settled (known_found (store u)) (settled u); calls = leaves_nothing c proper }
+      record { principal = p.0; action = p.1; resource = p.2; context = p.3; store = λ u. values_of_settled (known_found (store u)) (settled u); calls = leaves_nothing c admitted }
 
   pub session_answers : answered scope c.submission.limit c.submission.policies ≡ as_concrete (answer_of (world_now x s) c.submission.policies)
   session_answers =
-      answered_is scope c.submission.limit (proper.fair).agrees known settled c.submission.policies (accepted_within c.submission proper.accepted scope)
+      answered_is scope c.submission.limit (admitted.fair).agrees known settled c.submission.policies (accepted_within c.submission admitted.accepted scope)
       ∙ (λ i. as_concrete (answer_of (record (known_world scope) { store = λ u. same u i }) c.submission.policies))
-      ∙ ap as_concrete (loaded_answers c proper s stands opened.opened nothing fine)
+      ∙ ap as_concrete (loaded_answers c admitted s stands opened.opened nothing fine)

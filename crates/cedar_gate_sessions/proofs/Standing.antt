@@ -38,7 +38,8 @@ use Rattle.cedar_gate_wanted.specs.Wanting.{IsWanting, IsSameLoading, near_in, r
 use Rattle.cedar_gate_wanted.specs.declared.loading.Loading.{Loading}
 use Rattle.cedar_gate_wanted.proofs.Rounds.{supply_is_round, roots_bound}
 use Rattle.cedar_gate_wanted.proofs.Slicing.{next_round}
-use Rattle.cedar_gate_sessions.proofs.Represented.{entity_is_well}
+use Rattle.cedar_evaluator_model.proofs.Represented.{entity_well}
+use Rattle.cedar_evaluator_reads.proofs.Canonical.{entity_canonical}
 use Rattle.cedar_gate_sessions.specs.Entities.{supplied_of, supplied_uids, supplied_entities, row_pair, mentions_pair}
 use Rattle.cedar_gate_sessions.specs.Loaded.{loaded_at, is_right}
 use Rattle.cedar_gate_sessions.specs.Sessions.{IsAt, IsSetup, gate_of, AreFromStore, AreLoaded, extent_at, stored_in}
@@ -97,7 +98,7 @@ module _ (x : Setup) (s : State) (es : List Entity) (ps : List (EntityUID × Opt
   held_there false k h = tt
 
   written_of : (p : EntityUID × Option Entity) (e : Entity) → Contains ps p → p.1 ≡ Some e → IsFoundMadeWell x.functions.table (held (entity_seen e))
-  written_of p e c is = entity_is_well x.functions.table e (subst (λ o. IfSome o (λ e. IsEntityRepresented x.functions.table (entity_seen e))) is (from.represented p c))
+  written_of p e c is = entity_well x.functions.table (entity_seen e) (entity_canonical e) (subst (λ o. IfSome o (λ e. IsEntityRepresented x.functions.table (entity_seen e))) is (from.represented p c))
 
   -- whatever was asked for
   written_more : (t : Extent) (u : Uid) (o n : Option Kept) → lookup (uid_eq u) (map kept_pair es) ≡ o → lookup (uid_eq u) (map kept_pair (supplied_entities ps)) ≡ n → IsFoundMadeWell x.functions.table (if_uid u (found_kept t (option_or o n)))

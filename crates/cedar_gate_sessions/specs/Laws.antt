@@ -20,14 +20,14 @@ use Rattle.cedar_evaluator_model.specs.Response.{response_of}
 use Rattle.cedar_evaluator_model.specs.Scope.{Scope}
 use Rattle.cedar_gate_model.specs.Acceptance.{Submission, IsAccepted}
 use Rattle.cedar_gate_model.specs.Runs.{MayDecide}
-use Rattle.cedar_gate_model.specs.RunsAnswer.{Course, session_of, IsProper, MakeFairly, IsOpened, IsKnownStore}
+use Rattle.cedar_gate_model.specs.RunsAnswer.{Course, session_of, IsAdmitted, MakeFairly, IsOpened, IsKnownStore}
 use Rattle.cedar_gate_model.specs.Session.{Setup, State, scope_now, world_now, whole_store, NothingIsWanted, AnswerRefusal, AnswerFault}
 use Rattle.cedar_gate_sessions.specs.Answers.{answered}
 
 -- The decision that evaluating in part gives, or that it gives none, may be given: where the submission is accepted, the functions are fair
 -- and make their values as they are written, the session opened and bound its names, and the store is what is known of it.
 abbrev pub DecisionsMayBeGiven : Type 0
-DecisionsMayBeGiven = (c : Course) (s : State) (store : Uid → Found Made) → IsProper c → MakeFairly c.functions → IsOpened (session_of c) s → IsKnownStore c s store
+DecisionsMayBeGiven = (c : Course) (s : State) (store : Uid → Found Made) → IsAdmitted c → MakeFairly c.functions → IsOpened (session_of c) s → IsKnownStore c s store
     → (d : Option Decision) → d ≡ decision_in_session (response_of (scope_now (session_of c) s store) c.submission.limit c.submission.policies) → MayDecide (session_of c) c.submission.policies s d
 
 -- The policies of an accepted submission have distinct ids, and are within its limit, whatever is known.
@@ -51,5 +51,5 @@ loaded_store x s u = if declares_action x.schema u || list_any (uid_eq u) s.aske
 
 -- Where nothing is refused, the answer that evaluations over what was loaded leave is the answer over the whole store.
 abbrev pub SessionsAnswer : Type 0
-SessionsAnswer = (c : Course) (s : State) (store : Uid → Found Made) → IsProper c → IsOpened (session_of c) s → Conform (session_of c) s → NothingIsWanted (session_of c) s → ((f : AnswerRefusal) → AnswerFault (session_of c) s f → ⊥)
+SessionsAnswer = (c : Course) (s : State) (store : Uid → Found Made) → IsAdmitted c → IsOpened (session_of c) s → Conform (session_of c) s → NothingIsWanted (session_of c) s → ((f : AnswerRefusal) → AnswerFault (session_of c) s f → ⊥)
     → ((u : Uid) → known_found (store u) ≡ loaded_store (session_of c) s u) → answered (scope_now (session_of c) s store) c.submission.limit c.submission.policies ≡ as_concrete (answer_of (world_now (session_of c) s) c.submission.policies)

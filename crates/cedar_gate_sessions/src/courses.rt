@@ -1,7 +1,8 @@
 //! Sessions as runs call them: each is at a state of a course.
 
 ghost use Rattle.cedar_gate_sessions.specs.Courses.{Stands};
-ghost use Rattle.cedar_gate_sessions.specs.Sessions.{wanted_of};
+ghost use Rattle.cedar_gate_model.specs.RunsAnswer.{session_of};
+ghost use Rattle.cedar_gate_sessions.specs.Sessions.{wanted_of, gate_of};
 
 use crate::gates::GateCalls;
 use crate::refusals::{refused_answer, refused_binding, refused_supply};
@@ -18,6 +19,8 @@ impl<'g, G: GateCalls> SessionCalls for SessionAt<'g, G> {
     ghost stands = { Stands G.suits G.accepted };
 
     ghost wants = { wanted_of };
+
+    ghost makes_values = { λ c s d h. G.makes_values (gate_of d) (session_of c) h.at.setup.gate };
 
     fn level(&self) -> u32 {
         self.gate.level()

@@ -10,6 +10,7 @@ ghost use Rattle.cedar_store_model.specs.Policy.{Policy as ModelPolicy};
 ghost use Rattle.cedar_store_model.specs.World.{Found};
 ghost use Rattle.cedar_store_policies.specs.Policies.{policy_of};
 ghost use Rattle.cedar_expr_model.specs.ListLaws.{AreDistinct};
+ghost use Rattle.cedar_evaluator_model.specs.OfLaws.WellMade.{MakeValues};
 ghost use Rattle.cedar_evaluator_requests.specs.Views.{request_of, answer_of};
 ghost use Rattle.cedar_gate_model.specs.Session.{Setup, State, ContextFails, scope_now};
 ghost use Rattle.cedar_gate_openings.specs.Names.{bound_in};
@@ -94,4 +95,7 @@ pub trait GateCalls: Schema {
         bound: &HashMap<RcStr, V>,
     ) -> Result<Response, AllocError>
         ensures { IfOk result (λ r. (x : Setup) (s : State) (found : Uid → Found Made) → suits self.now x → IsKnown x s found request store.now bound.now → AreDistinct (ids (accepted self.now)) → answer_of r ≡ answered (scope_now x s found) x.limit (accepted self.now)) };
+
+    /// The functions of such a setup make values.
+    ghost makes_values: { (g : Self) (x : Setup) → suits g x → MakeValues x.functions.calls };
 }

@@ -18,7 +18,7 @@ ghost use Rattle.cedar_gate_sessions.specs.Bounds.{bounds_of};
 ghost use Rattle.cedar_gate_sessions.specs.Verdicts.{verdicts_of};
 ghost use Rattle.cedar_gate_wanted.specs.Rows.{uids};
 ghost use Rattle.cedar_gate_model.specs.Runs.{DecidesInPart, with_asked};
-ghost use Rattle.cedar_gate_model.specs.RunsAnswer.{Course, session_of, IsProper, MakeFairly};
+ghost use Rattle.cedar_gate_model.specs.RunsAnswer.{Course, session_of, IsAdmitted, AnswerFairly};
 ghost use Rattle.cedar_gate_model.specs.Early.{KeepsDecision, KeepsBounds};
 ghost use Rattle.cedar_gate_model.specs.Session.{Setup, State, at_start, with_bound, scope_now, world_now, IsWantedList, NothingIsWanted, AnswerRefusal, AnswerFault as AnswerIsRefused};
 ghost use Rattle.cedar_gate_sessions.specs.Courses.{Stands};
@@ -46,6 +46,8 @@ use cedar_store_entities::Entity;
 use cedar_store_entities::laws::uids_are_uids;
 use std::alloc::{AllocError, Global};
 use std::collections::HashMap;
+use std::fmt;
+use std::fmt::{Debug, Formatter, Write};
 use std::rc::RcStr;
 
 /// One request at a gate, which it borrows, over a store that is loaded round by round.
@@ -59,6 +61,19 @@ pub struct SessionAt<'g, G> {
     loaded: Vec<Entity>,
 }
 
+impl<G> Debug for SessionAt<'_, G> {
+    fn fmt<W: Write>(&self, f: &mut Formatter<W>) -> fmt::Result {
+        write!(
+            f,
+            "<Session with principal = {:?}, action = {:?}, resource = {:?}, {} uids wanted>",
+            self.now.principal(),
+            self.now.action(),
+            self.now.resource(),
+            self.loading.wanted().len()
+        )
+    }
+}
+
 impl<'g, G: GateCalls> SessionAt<'g, G> {
     /// A session of this request at the gate. It is at the start of each course of this request there.
     ///
@@ -68,7 +83,7 @@ impl<'g, G: GateCalls> SessionAt<'g, G> {
     pub fn open(alloc: Global, gate: &'g G, request: Request) -> Result<SessionAt<'g, G>, OpenFault>
         ensures gate { IfOk result (λ e. gate_of e ≡ gate.entry.now) }
         ensures at { IfOk result (λ e. (x : Setup) → IsSetup G.suits x gate.entry.now request → IsAt G.suits x at_start e) }
-        ensures stands { IfOk result (λ e. (c : Course) → IsSetup G.suits (session_of c) gate.entry.now request → IsProper c → MakeFairly c.functions → G.accepted gate.entry.now ≡ c.submission.policies → Stands G.suits G.accepted c at_start e) }
+        ensures stands { IfOk result (λ e. (c : Course) → IsSetup G.suits (session_of c) gate.entry.now request → IsAdmitted c → AnswerFairly c.functions → G.accepted gate.entry.now ≡ c.submission.policies → Stands G.suits G.accepted c at_start e) }
         ensures opens { OnOk result (opens (request_of request)) }
         ensures refused { IfErr result (IsOpenFault (request_of request)) }
     {
@@ -189,7 +204,7 @@ impl<'g, G: GateCalls> SessionAt<'g, G> {
     pub fn decision(&self, alloc: Global) -> Result<Option<Decision>, AllocError>
         ensures exact { IfOk result (λ d. (x : Setup) (s : State) → IsAt G.suits x s self.entry.now → option_map decision_of d ≡ decision_in_session (response_of (scope_now x s (store_in self.entry.now)) x.limit (policies_in G.accepted self.entry.now))) }
         ensures in_part { IfOk result (λ d. (c : Course) (s : State) → IsAt G.suits (session_of c) s self.entry.now → policies_in G.accepted self.entry.now ≡ c.submission.policies → DecidesInPart (session_of c) c.submission.policies s (option_map decision_of d)) }
-        ensures kept { IfOk result (λ d. (c : Course) (s : State) → IsAt G.suits (session_of c) s self.entry.now → policies_in G.accepted self.entry.now ≡ c.submission.policies → IsProper c → MakeFairly c.functions → KeepsDecision c s (option_map decision_of d)) }
+        ensures kept { IfOk result (λ d. (c : Course) (s : State) → IsAt G.suits (session_of c) s self.entry.now → policies_in G.accepted self.entry.now ≡ c.submission.policies → IsAdmitted c → AnswerFairly c.functions → KeepsDecision c s (option_map decision_of d)) }
     {
         uids_are_uids();
         decisions_are_kept();
@@ -201,7 +216,7 @@ impl<'g, G: GateCalls> SessionAt<'g, G> {
     /// is bound, and are the reasons of the answer where all that is looked up is known too. Fails only when out of memory.
     pub fn bounds(&self, alloc: Global) -> Result<Option<Bounds>, AllocError>
         ensures exact { IfOk result (λ b. (x : Setup) (s : State) → IsAt G.suits x s self.entry.now → AreDistinct (ids (policies_in G.accepted self.entry.now)) → option_map bounds_of b ≡ bounds_in_session (policies_in G.accepted self.entry.now) (response_of (scope_now x s (store_in self.entry.now)) x.limit (policies_in G.accepted self.entry.now))) }
-        ensures kept { IfOk result (λ b. (c : Course) (s : State) → IsAt G.suits (session_of c) s self.entry.now → policies_in G.accepted self.entry.now ≡ c.submission.policies → IsProper c → MakeFairly c.functions → KeepsBounds c s (option_map bounds_of b)) }
+        ensures kept { IfOk result (λ b. (c : Course) (s : State) → IsAt G.suits (session_of c) s self.entry.now → policies_in G.accepted self.entry.now ≡ c.submission.policies → IsAdmitted c → AnswerFairly c.functions → KeepsBounds c s (option_map bounds_of b)) }
     {
         uids_are_uids();
         bounds_are_kept();
@@ -215,7 +230,7 @@ impl<'g, G: GateCalls> SessionAt<'g, G> {
     ///
     /// 1 something isn't bound, 2 something is wanted, 3 all is bound and the request doesn't conform; or out of memory.
     pub fn answer(&self, alloc: Global) -> Result<Response, AnswerFault>
-        ensures answer { IfOk result (λ r. (c : Course) (s : State) → IsProper c → IsAt G.suits (session_of c) s self.entry.now → policies_in G.accepted self.entry.now ≡ c.submission.policies → answer_of r ≡ as_concrete (answer_meant (world_now (session_of c) s) c.submission.policies)) }
+        ensures answer { IfOk result (λ r. (c : Course) (s : State) → IsAdmitted c → IsAt G.suits (session_of c) s self.entry.now → policies_in G.accepted self.entry.now ≡ c.submission.policies → answer_of r ≡ as_concrete (answer_meant (world_now (session_of c) s) c.submission.policies)) }
         ensures given { OnOk result (HasAnswer G.schema self.entry.now) }
         ensures refused { IfErr result (IsRefusedAnswer G.schema self.entry.now) }
     {
@@ -243,7 +258,7 @@ impl<'g, G: GateCalls> SessionAt<'g, G> {
 
     // The answer over what is loaded.
     fn respond(&self, alloc: Global) -> Result<Response, AllocError>
-        ensures { IfOk result (λ r. (c : Course) (s : State) → IsProper c → IsAt G.suits (session_of c) s self.entry.now → policies_in G.accepted self.entry.now ≡ c.submission.policies → NothingIsWanted (session_of c) s → ((f : AnswerRefusal) → AnswerIsRefused (session_of c) s f → ⊥) → answer_of r ≡ as_concrete (answer_meant (world_now (session_of c) s) c.submission.policies)) }
+        ensures { IfOk result (λ r. (c : Course) (s : State) → IsAdmitted c → IsAt G.suits (session_of c) s self.entry.now → policies_in G.accepted self.entry.now ≡ c.submission.policies → NothingIsWanted (session_of c) s → ((f : AnswerRefusal) → AnswerIsRefused (session_of c) s f → ⊥) → answer_of r ≡ as_concrete (answer_meant (world_now (session_of c) s) c.submission.policies)) }
     {
         uids_are_uids();
         accepted_policies_are_fit();

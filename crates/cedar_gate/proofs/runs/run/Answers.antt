@@ -1,7 +1,7 @@
 use Rattle.std.proofs.Common.{sym, subst}
 use Rattle.cedar_gate_model.specs.RunsAnswer.{Course}
 use Rattle.cedar_gate_openings.specs.Faults.{IsOpenFault}
-use Rattle.cedar_gate.proofs.Courses.{accepted_at, proper_at}
+use Rattle.cedar_gate.proofs.Courses.{accepted_at, admitted_at}
 use Rattle.cedar_gate.proofs.Opening.{asks_nothing, done_nothing_keeps, run_by}
 use Rattle.cedar_gate.proofs.runs.run.Goals as goal
 
@@ -11,7 +11,7 @@ returns-in-Ok-clause-run g c = λ d r. c.run_session.ensures.run d (run_by c.arg
 pub returns-in-Ok-clause-promises : goal.returns-in-Ok-clause-promises
 returns-in-Ok-clause-promises g c = λ d r.
     c.run_session.ensures.promises d (run_by c.args.gate.now c.args.request c.args.steps.items _ _ c.args.host.now c.in-Ok.session c.in-Ok.ensures.opens c.in-Ok.ensures.stands d r)
-    (proper_at c.args.gate.now c.args.request c.args.steps.items d c.context_is_made.ensures r.course) r.course.fair.fair
+    (admitted_at c.args.gate.now c.args.request c.args.steps.items d c.context_is_made.ensures r.course) r.course.fair.fair
 
 pub returns-in-Ok-clause-asked : goal.returns-in-Ok-clause-asked
 returns-in-Ok-clause-asked g c = λ d r opens.

@@ -8,7 +8,7 @@ use Rattle.cedar_gate_sessions.proofs.courses.SessionAtSessionCalls.bind.Goals a
 
 pub returns-in-Ok-clause-at : goal.returns-in-Ok-clause-at
 returns-in-Ok-clause-at g c = λ d s h well. record {
-  proper = h.proper;
+  admitted = h.admitted;
   fair = h.fair;
   at = c.in-Ok.ensures.at (session_of d) s h.at well;
   policies = ap g.G.GateCalls.accepted c.in-Ok.ensures.gate ∙ h.policies;

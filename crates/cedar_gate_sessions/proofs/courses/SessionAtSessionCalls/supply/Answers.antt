@@ -6,7 +6,7 @@ use Rattle.cedar_gate_sessions.proofs.courses.SessionAtSessionCalls.supply.Goals
 
 pub returns-in-Ok-clause-at : goal.returns-in-Ok-clause-at
 returns-in-Ok-clause-at g c = λ d s h a. record {
-  proper = h.proper;
+  admitted = h.admitted;
   fair = h.fair;
   at = c.in-Ok.ensures.at (session_of d) s h.at (record { answered = a.answered; represented = a.represented });
   policies = ap g.G.GateCalls.accepted c.in-Ok.ensures.gate ∙ h.policies;

@@ -5,8 +5,9 @@ use Rattle.cedar_evaluator_model.specs.Response.{response_of}
 use Rattle.cedar_evaluator_model.specs.Scope.{Scope}
 use Rattle.cedar_gate_model.specs.RunsAnswer.{session_of}
 use Rattle.cedar_gate_model.specs.Session.{scope_now}
-use Rattle.cedar_gate_sessions.specs.Sessions.{policies_in, store_in, was_asked}
+use Rattle.cedar_gate_sessions.specs.Sessions.{gate_of, policies_in, store_in, was_asked}
 use Rattle.cedar_gate_sessions.specs.Verdicts.{verdicts_of}
+use Rattle.cedar_gate_runs.proofs.Proper.{fairly_of}
 use Rattle.cedar_gate_sessions.proofs.Answered.{decision_in_part}
 use Rattle.cedar_gate_sessions.proofs.Knowing.{known_store, made_alike}
 use Rattle.cedar_gate_sessions.proofs.Stores.{steady}
@@ -26,5 +27,6 @@ returns-clause-in_part g c = λ r s at is.
     (known_store g.G.GateCalls.suits r s d at) (option_map decision_of c.decided.result) (returns-clause-exact g c x s at)
 
 pub returns-clause-kept : goal.returns-clause-kept
-returns-clause-kept g c = λ r s at is proper fair.
-    c.decisions_are_kept.ensures r s (option_map decision_of c.decided.result) proper fair at.opened (at.loaded).conform (returns-clause-in_part g c r s at is)
+returns-clause-kept g c = λ r s at is admitted fair.
+    let values = g.met.G.GateCalls.makes_values (gate_of c.args.self.now) (session_of r) (at.setup).gate in
+    c.decisions_are_kept.ensures r s (option_map decision_of c.decided.result) admitted (fairly_of r.functions values fair) at.opened (at.loaded).conform (returns-clause-in_part g c r s at is)

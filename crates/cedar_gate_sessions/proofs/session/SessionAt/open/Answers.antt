@@ -13,4 +13,4 @@ returns-clause-at g c =
     (λ u. ap (λ m. found_at m u) c.add_known_roots.ensures.rows ∙ c.new-loading.ensures.rows u) (c.in_ok-add_known_roots.ensures.kept [] c.new-loading.ensures.kept) c.in_ok-loaded.ensures
 
 pub returns-clause-stands : goal.returns-clause-stands
-returns-clause-stands g c = λ d setup proper fair same. record { proper = proper; fair = fair; at = returns-clause-at g c (session_of d) setup; policies = same }
+returns-clause-stands g c = λ d setup admitted fair same. record { admitted = admitted; fair = fair; at = returns-clause-at g c (session_of d) setup; policies = same }

@@ -17,10 +17,10 @@ returns g c =
     let d = c.args.self.now in
     let ps = policies_in g.G.GateCalls.accepted d in
     let store = stored_in (λ v. true) d.loaded.items in
-    IfOk-weaker c.respond.result _ _ (λ q said r s proper at is nothing fine.
+    IfOk-weaker c.respond.result _ _ (λ q said r s admitted at is nothing fine.
     let x = session_of r in
-    let distinct = subst (λ qs. AreDistinct (ids qs)) (sym is) (c.accepted_policies_are_fit.ensures.distinct r.submission proper.accepted) in
-    answer_told r s store (steady x.schema store) (λ u. made_alike x s d.loaded.items at.loaded u c.uids_are_uids.ensures (λ v. true)) ps is proper at.opened c.answers_are_the_meaning.ensures.sessions (at.loaded).conform nothing fine
+    let distinct = subst (λ qs. AreDistinct (ids qs)) (sym is) (c.accepted_policies_are_fit.ensures.distinct r.submission admitted.accepted) in
+    answer_told r s store (steady x.schema store) (λ u. made_alike x s d.loaded.items at.loaded u c.uids_are_uids.ensures (λ v. true)) ps is admitted at.opened c.answers_are_the_meaning.ensures.sessions (at.loaded).conform nothing fine
     (λ u. steady_whole x s d.loaded.items at.loaded u) (answer_of q)
     (said x s store (at.setup).gate record {
       request = c.in_ok-clone.ensures.cases ∙ at.now;
