@@ -27,7 +27,7 @@ use Rattle.cedar_evaluator_errors.specs.Answers.{IsAnswer, IsMadeBy, AnswersMade
 use Rattle.cedargate_functions.specs.Ranks.{rank_name, label_name, ranked, labelled, rank_calls, rank_answers}
 use Rattle.cedargate_functions.specs.Outcomes.{ComesTo, made_values}
 use Rattle.cedargate_functions.specs.Tables.{rank_signature, label_signature, HoldsRanks}
-use Rattle.cedargate_functions.proofs.Ranked.{ranks_make_fairly}
+use Rattle.cedargate_functions.proofs.Ranked.{ranks_answer_fairly, rank_values}
 use Rattle.cedargate_functions.specs.Stored.{AreRankFunctions}
 
 made_answer : (c : MadeCalled) (r : Result ExtensionOutputValue CallFault) → ComesTo c r → IsAnswer c r
@@ -69,7 +69,7 @@ module _ {B : _} {F : _} {g : _} (e : Extension B F g) (t : Extensions B F g) (a
   pub table_made : IsPermutation (all_functions (e ∷ [])) (stored_in t) → AnswersMade t rank_calls
   table_made p =
       let here = subst (λ fs. IsPermutation fs (stored_in t)) (append-nil (functions_in e)) p in
-      record { each = λ f k. are.made f (Contains-permutation (stored_in t) (functions_in e) f (IsPermutation-sym (functions_in e) (stored_in t) here) k) }
+      record { values = rank_values; each = λ f k. are.made f (Contains-permutation (stored_in t) (functions_in e) f (IsPermutation-sym (functions_in e) (stored_in t) here) k) }
 
   pub table_holds : ordered_in e ≡ rank_name ∷ [] → IsPermutation (all_signatures (e ∷ [])) (functions_of t) → ordered_of t ≡ all_ordered (e ∷ []) → HoldsRanks (table_of t rank_answers)
   table_holds o p q = record {
@@ -80,7 +80,7 @@ module _ {B : _} {F : _} {g : _} (e : Extension B F g) (t : Extensions B F g) (a
 
 -- The table that holds them has only functions with result types.
 pub table_typed : (x : Table) → HoldsRanks x → all_typed x ≡ true
-table_typed x h = (ranks_make_fairly x h).typed
+table_typed x h = (ranks_answer_fairly x h).typed
 
 -- A function that `unary` gives answers as `rank`, or `label`, does, if it gives one.
 module _ {B : _} {F : _} {g : _} {E : Type 0} (post : Global → Bor (List (Value ExtValue)) → Result ExtensionOutputValue CallFault → Type 0) where

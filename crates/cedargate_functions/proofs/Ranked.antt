@@ -16,8 +16,10 @@ use Rattle.cedar_expr_model.proofs.Equality.{name_eq-Decides}
 use Rattle.cedar_expr_model.proofs.Lists.{contains_head, contains_tail, contains_cases, contains_none, hold_both}
 use Rattle.cedar_evaluator_model.specs.Scope.{MadeCalled, makes, faults}
 use Rattle.cedar_evaluator_model.specs.OfLaws.Calls.{bare_called}
-use Rattle.cedar_evaluator_model.specs.OfLaws.WellMade.{IsWellMade}
-use Rattle.cedar_gate_model.specs.RunsAnswer.{MakeFairly}
+use Rattle.cedar_evaluator_model.specs.OfLaws.WellMade.{MakeValues}
+use Rattle.cedar_expr_model.specs.Canonical.{is_canonical}
+use Rattle.cedar_expr_model.specs.OfLaws.Represented.{IsRepresented}
+use Rattle.cedar_gate_model.specs.RunsAnswer.{AnswerFairly}
 use Rattle.cedargate_functions.specs.Ranks.{rank_name, label_name, rank_read, rank_key, rank_made, label_made, number_read, number_kept, ranked, labelled, rank_calls, bare_number_read, bare_number_kept, rank_answers}
 use Rattle.cedargate_functions.specs.Tables.{rank_signature, label_signature, HoldsRanks, rank_functions}
 use Rattle.cedargate_functions.proofs.Answered.{calls_agree}
@@ -94,7 +96,7 @@ module _ (x : Table) (h : HoldsRanks x) where
   agrees f ms = calls_agree f ms ∙ sym (h.answers f (map model.bare ms))
 
   -- and what they make is what its call makes
-  rank_well : (n : ℕ) → n < 10000 → IsWellMade x (rank_made n)
+  rank_well : (n : ℕ) → n < 10000 → IsRepresented x (rank_made n)
   rank_well n small = (
     (rank_signature, rank_found, refl, refl),
     h.answers rank_name (prim (text (decimal n)) ∷ []) ∙ ap (λ o. option_map_or (λ n. gives (model.bare (rank_made n))) o (fails rank_name)) (decimal_read n small),
@@ -104,26 +106,42 @@ module _ (x : Table) (h : HoldsRanks x) where
   read_well (model.made_prim (text t) ∷ []) n e = read_below t n e
   read_well ms n e = absurd (cc)
 
-  ranked_well : (ms : List Made) (m : Made) (o : Option ℕ) → number_read ms ≡ o → option_map_or (λ n. makes (rank_made n)) o (faults rank_name) ≡ makes m → IsWellMade x m
+  ranked_well : (ms : List Made) (m : Made) (o : Option ℕ) → number_read ms ≡ o → option_map_or (λ n. makes (rank_made n)) o (faults rank_name) ≡ makes m → IsRepresented x m
   ranked_well ms m None e k = absurd (cc)
-  ranked_well ms m (Some n) e k = let same : rank_made n ≡ m = cc in subst (IsWellMade x) same (rank_well n (read_well ms n e))
+  ranked_well ms m (Some n) e k = let same : rank_made n ≡ m = cc in subst (IsRepresented x) same (rank_well n (read_well ms n e))
 
-  labelled_well : (m : Made) (o : Option ℕ) → option_map_or (λ n. makes (label_made n)) o (faults rank_name) ≡ makes m → IsWellMade x m
+  labelled_well : (m : Made) (o : Option ℕ) → option_map_or (λ n. makes (label_made n)) o (faults rank_name) ≡ makes m → IsRepresented x m
   labelled_well m None k = absurd (cc)
-  labelled_well m (Some n) k = let same : label_made n ≡ m = cc in subst (IsWellMade x) same tt
+  labelled_well m (Some n) k = let same : label_made n ≡ m = cc in subst (IsRepresented x) same tt
 
-  well_case : (b : Bool) (ms : List Made) (m : Made) → cond b (ranked ms) (labelled ms) ≡ makes m → IsWellMade x m
+  well_case : (b : Bool) (ms : List Made) (m : Made) → cond b (ranked ms) (labelled ms) ≡ makes m → IsRepresented x m
   well_case true ms m k = ranked_well ms m (number_read ms) refl k
   well_case false ms m k = labelled_well m (number_kept ms) k
 
-  well : (f : Name) (ms : List Made) (m : Made) → rank_calls f ms ≡ makes m → IsWellMade x m
+  well : (f : Name) (ms : List Made) (m : Made) → rank_calls f ms ≡ makes m → IsRepresented x m
   well f ms m k = well_case (name_eq f rank_name) ms m k
 
--- The functions of the program are fair, each with a result type, and their calls answer as the table does, with values as they are written.
-pub ranks_make_fairly : (x : Table) → HoldsRanks x → MakeFairly (rank_functions x)
-ranks_make_fairly x h = record {
+-- The functions of the program are fair, each with a result type, and their calls answer as the table does.
+pub ranks_answer_fairly : (x : Table) → HoldsRanks x → AnswerFairly (rank_functions x)
+ranks_answer_fairly x h = record {
   fair = fair x h;
   typed = typed x h;
   agrees = λ f ms t. agrees x h f ms;
-  well = λ f ms m t k. well x h f ms m k;
+  represented = λ f ms m t k. well x h f ms m k;
 }
+
+-- what they make are values
+rank_is_value : (m : Made) (o : Option ℕ) → option_map_or (λ n. makes (rank_made n)) o (faults rank_name) ≡ makes m → is_canonical (model.bare m) ≡ true
+rank_is_value m None k = absurd (cc)
+rank_is_value m (Some n) k = let same : rank_made n ≡ m = cc in subst (λ v. is_canonical (model.bare v) ≡ true) same refl
+
+label_is_value : (m : Made) (o : Option ℕ) → option_map_or (λ n. makes (label_made n)) o (faults rank_name) ≡ makes m → is_canonical (model.bare m) ≡ true
+label_is_value m None k = absurd (cc)
+label_is_value m (Some n) k = let same : label_made n ≡ m = cc in subst (λ v. is_canonical (model.bare v) ≡ true) same refl
+
+value_case : (b : Bool) (ms : List Made) (m : Made) → cond b (ranked ms) (labelled ms) ≡ makes m → is_canonical (model.bare m) ≡ true
+value_case true ms m k = rank_is_value m (number_read ms) k
+value_case false ms m k = label_is_value m (number_kept ms) k
+
+pub rank_values : MakeValues rank_calls
+rank_values f ms m k = value_case (name_eq f rank_name) ms m k

@@ -1,7 +1,8 @@
 //! The extension functions of the program and of the library for C: `rank` makes ranks of texts of one to four digits, `label` gives their texts.
 //! They come to what the definitions `ranked` and `labelled` say of the arguments as they are made.
 
-ghost use Rattle.std.specs.Prelude.{◌≡◌, IfOk};
+ghost use Rattle.std.specs.Prelude.{◌≡◌, true, IfOk};
+ghost use Rattle.cedar_expr_model.specs.Name.{is_identifier, reserved};
 ghost use Rattle.cedar_expr_model.specs.Names.{unqualified};
 ghost use Rattle.cedar_expr_names.specs.Views.{plain_name_of};
 ghost use Rattle.std.specs.Fmt.{decimal};
@@ -15,7 +16,7 @@ ghost use Rattle.cedargate_functions.specs.Outcomes.{ComesTo, made_values};
 
 use crate::numbers::{number_kept, number_read};
 use cedar_expr_functions::{CallFault, ExtensionOutputValue};
-use cedar_expr_names::Name;
+use cedar_expr_names::{Name, NameError};
 use cedar_expr_values::{ExtValue, Literal, Value, ValueKind};
 use std::alloc::{AllocError, Global};
 use std::rc::Rc;
@@ -45,13 +46,16 @@ pub fn label(alloc: Global, args: &[V]) -> Result<ExtensionOutputValue, CallFaul
     }
 }
 
-/// The name of one identifier. Answers out of memory also where the text is no identifier.
-pub fn name(alloc: Global, text: &str) -> Result<Name, AllocError>
+/// The name of one identifier, which isn't reserved. Fails only when out of memory.
+pub(crate) fn name(alloc: Global, text: &str) -> Result<Name, AllocError>
+    requires identifies { is_identifier text.now ≡ true }
+    requires unreserved { text.now ≡ reserved → ⊥ }
     ensures { IfOk result (λ n. plain_name_of n ≡ unqualified text.now) }
 {
     match Name::parse_unqualified_name(alloc, text) {
         Ok(name) => Ok(name),
-        Err(_) => Err(AllocError),
+        Err(NameError::OutOfMemory) => Err(AllocError),
+        Err(NameError::NotNormalized | NameError::Reserved(_)) => unreachable!(),
     }
 }
 

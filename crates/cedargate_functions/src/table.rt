@@ -14,7 +14,9 @@ ghost use Rattle.cedargate_functions.specs.Tables.{rank_signature, label_signatu
 ghost use Rattle.cedargate_functions.specs.Stored.{AreRankFunctions};
 
 use crate::functions::name;
-use cedar_expr_functions::{CallStyle, Extension, ExtensionFunction, Extensions, Func};
+use cedar_expr_functions::{
+    CallStyle, Extension, ExtensionFunction, ExtensionInitializationError, Extensions, Func,
+};
 use cedar_expr_values::Type;
 use std::alloc::{AllocError, Global};
 
@@ -114,6 +116,10 @@ pub(crate) fn table_of<'a>(
 {
     match Extensions::specific_extensions(alloc, std::slice::from_ref(extension)) {
         Ok(table) => Ok(table),
-        Err(_) => Err(AllocError),
+        Err(ExtensionInitializationError::OutOfMemory) => Err(AllocError),
+        Err(
+            ExtensionInitializationError::FuncMultiplyDefined(_)
+            | ExtensionInitializationError::MultipleConstructorsSameSignature(_),
+        ) => unreachable!(),
     }
 }
