@@ -15,7 +15,10 @@ pub mod Closing
 pub mod Legal
 pub mod Worked
 pub mod Ancestors
+pub mod PartAlike
 pub mod Reordered
+pub mod MovedSchemas
+pub mod MovedRuns
 pub mod Forcing
 pub mod LateWorked
 pub mod WellMade

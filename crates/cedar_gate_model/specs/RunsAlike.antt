@@ -18,9 +18,9 @@ use Rattle.cedar_gate_model.specs.Acceptance.{Submission, IsAccepted, schema_in,
 use Rattle.cedar_gate_model.specs.Slice.{InSlice}
 use Rattle.cedar_gate_model.specs.Transcript.{Step, Entry}
 use Rattle.cedar_gate_model.specs.Session.{world_now}
-use Rattle.cedar_gate_model.specs.Runs.{answered}
+use Rattle.cedar_gate_model.specs.Runs.{End, answered}
 use Rattle.cedar_gate_model.specs.RunLaws.{bindings_in}
-use Rattle.cedar_gate_model.specs.RunsAnswer.{Course, session_of, IsProper, MayRun, end_world}
+use Rattle.cedar_gate_model.specs.RunsAnswer.{Course, session_of, IsProper, IsRun, MayRun, end_world}
 
 -- what is bound after these bindings, the last one first
 abbrev pub bound_by : List (Text × Made) → List (Text × Made) → List (Text × Made)
@@ -91,6 +91,16 @@ FragmentsMaySplit = (b : Submission) (before after : List Declarations) (d e : D
 abbrev pub MovedDeclarationsAnswerAlike : Type 0
 MovedDeclarationsAnswerAlike = (c : Course) (d : Declarations) (es fs : List Entry) (a b : Answer) → IsAccepted c.submission → IsReordered c.submission.declarations d
     → MayRun c es (answered a) → MayRun (by_declarations c d) fs (answered b) → a ≡ b
+
+-- And each run by the ones is a run by the others, with the same entries and the same end, a refused one too.
+abbrev pub MovedDeclarationsRun : Type 0
+MovedDeclarationsRun = (c : Course) (d : Declarations) (es : List Entry) (end : End) → IsAccepted c.submission → IsReordered c.submission.declarations d
+    → MayRun c es end → MayRun (by_declarations c d) es end
+
+-- So is each run that decides by evaluating in part.
+abbrev pub MovedDeclarationsDecide : Type 0
+MovedDeclarationsDecide = (c : Course) (d : Declarations) (es : List Entry) (end : End) → IsAccepted c.submission → IsReordered c.submission.declarations d
+    → IsRun c es end → IsRun (by_declarations c d) es end
 
 -- A store that has the same in the slice gives the same answer, whatever stands in it elsewhere.
 abbrev pub OutsideSaysNothing : Type 0

@@ -1,7 +1,7 @@
 //! Laws of runs: what they ask for, decide and answer. Each function's contract is the theorem; its body does nothing.
 
 ghost use Rattle.cedar_gate_model.specs.RunsAsk.{RunsAskOnce, RunsAskInTheSlice, RunsAskTheSlice, RunsHaveFewRounds};
-ghost use Rattle.cedar_gate_model.specs.RunsAlike.{EndsAreTheCourses, StepsMayMove, LevelsAnswerAlike, OutsideSaysNothing, OutsideRunsStay, PoliciesMayMove, MovedPoliciesAnswerAlike, MovedPoliciesRun, PrunedAnswersAlike, WarnedAreNoReasons, DeclarationsMayMove, FragmentsMaySplit, MovedDeclarationsAnswerAlike};
+ghost use Rattle.cedar_gate_model.specs.RunsAlike.{EndsAreTheCourses, StepsMayMove, LevelsAnswerAlike, OutsideSaysNothing, OutsideRunsStay, PoliciesMayMove, MovedPoliciesAnswerAlike, MovedPoliciesRun, PrunedAnswersAlike, WarnedAreNoReasons, DeclarationsMayMove, FragmentsMaySplit, MovedDeclarationsAnswerAlike, MovedDeclarationsRun, MovedDeclarationsDecide};
 ghost use Rattle.cedar_gate_model.specs.RunsAnswer.{AnsweredRunsAreCompleted, RunsMayBe, GivenDecisionsAreTheAnswers, AnswersAreTheWholeStores, AnswersNeedTheLoadedAlone, ErrorsAreExpected, ReadyDecisionsAreOwed, ForcedDecisionsAreGiven, EvaluatedDecisionsHold, DecidingSessionsAreOpened, SessionsAreCompleted, SessionsHaveCompletions, ProperRunsAreLegal, IsProper, MayRun, BundlesAreProper, session_of, end_world, with_unknowns, IsOpened, IsKnownStore};
 ghost use Rattle.cedar_gate_model.specs.RunLaws.{RunsAreLegal, AnsweredRunsAskTheSlice};
 ghost use Rattle.cedar_gate_model.specs.SliceSoundness.{LargerLevelsAccept};
@@ -78,13 +78,16 @@ pub fn steps_and_levels_are_free()
 {}
 
 /// Policies in another order are accepted alike, and give the same decision, the same reasons and the same errors. Declarations in
-/// another order are accepted alike, and come to the same answer; split among fragments they are the same.
+/// another order are accepted alike, and come to the same answer: each run by the ones is a run by the others, to the same end, a refused
+/// one too. Split among fragments they are the same.
 pub fn order_is_free()
     ensures policies { PoliciesMayMove }
     ensures policies_answer { MovedPoliciesAnswerAlike }
     ensures policies_run { MovedPoliciesRun }
     ensures declarations { DeclarationsMayMove }
     ensures declarations_answer { MovedDeclarationsAnswerAlike }
+    ensures declarations_run { MovedDeclarationsRun }
+    ensures declarations_decide { MovedDeclarationsDecide }
     ensures split { FragmentsMaySplit }
 {}
 

@@ -12,39 +12,40 @@ use Rattle.cedar_expr_model.specs.Tree.{Var, principal, action, resource, contex
 use Rattle.cedar_expr_model.specs.Value.{V, prim, entity, text, record_of, field}
 use Rattle.cedar_expr_model.specs.ValueParts.{Part}
 use Rattle.cedar_store_model.specs.Laws.{with_store}
-use Rattle.cedar_store_model.specs.Meaning.{variable, combined, picked, truth_asked, path_tested, outcome_of, outcomes_of, field_outcomes_of}
+use Rattle.cedar_store_model.specs.Meaning.{Means, variable, combined, picked, truth_asked, path_tested, outcome_of, outcomes_of, field_outcomes_of}
 use Rattle.cedar_store_model.specs.Operators.{says, applied, like_pattern, of_type, called}
-use Rattle.cedar_store_model.specs.Outcome.{val, err, bind, wrong_type}
+use Rattle.cedar_store_model.specs.Outcome.{Res, val, err, bind, wrong_type}
 use Rattle.cedar_store_model.specs.Policy.{Policy, condition}
-use Rattle.cedar_store_model.specs.Answer.{with_slots, answer_of}
+use Rattle.cedar_store_model.specs.Answer.{with_slots, PolicyMeans, policy_outcome, answer_of}
 use Rattle.cedar_store_model.specs.Reads.{part_value, part_read, part_tested, attribute_read, attribute_tested, uids_in, found_in, within}
 use Rattle.cedar_store_model.specs.World.{World, Entity, Found, held}
-use Rattle.cedar_store_model.proofs.Conditions.{condition_asked}
+use Rattle.cedar_store_model.proofs.Conditions.{condition_asked, policy_meaning_is_a_function}
+use Rattle.cedar_store_model.proofs.Meaning.{means_outcome, outcome_means}
 use Rattle.cedar_store_model.proofs.Named.{attributes_of, tags_of, tag_read, tag_tested}
 use Rattle.cedar_store_model.proofs.Stores.{same_answers}
 
 -- Two entities have the same attributes and tags, and the same ancestors in some order.
-pub record Alike (e d : Entity V) : Type 0 where
+pub record Alike {A : Type 0} (e d : Entity A) : Type 0 where
   pub attributes : e.attributes ≡ d.attributes
   pub tags : e.tags ≡ d.tags
   pub ancestors : (v : Uid) → list_any (uid_eq v) e.ancestors ≡ list_any (uid_eq v) d.ancestors
 
-abbrev pub FoundAlike : Found V → Found V → Type 0
-FoundAlike f g = (f ≡ g) ⊎ ((e : Entity V) × (d : Entity V) × (f ≡ held e) × (g ≡ held d) × Alike e d)
+abbrev pub FoundAlike : {A : Type 0} → Found A → Found A → Type 0
+FoundAlike {A} f g = (f ≡ g) ⊎ ((e : Entity A) × (d : Entity A) × (f ≡ held e) × (g ≡ held d) × Alike e d)
+
+pub by_found_alike : {A B : Type 0} (f g : Found A) → FoundAlike f g → (read : Found A → B) → ((e d : Entity A) → Alike e d → read (held e) ≡ read (held d)) → read f ≡ read g
+by_found_alike f g h read same = ⊎_elim (λ q. ap read q) (λ k. ap read k.2 ∙ same k.0 k.1 k.4 ∙ sym (ap read k.3)) h
 
 module _ (f g : Found V) (h : FoundAlike f g) where
-  by_found_alike : {B : Type 0} (read : Found V → B) → ((e d : Entity V) → Alike e d → read (held e) ≡ read (held d)) → read f ≡ read g
-  by_found_alike read same = ⊎_elim (λ q. ap read q) (λ k. ap read k.2 ∙ same k.0 k.1 k.4 ∙ sym (ap read k.3)) h
-
   read_alike : (parts : Entity V → List (Text × Part V)) → ((e d : Entity V) → Alike e d → parts e ≡ parts d) → (u : Uid) (a : Text) → part_read parts u a f ≡ part_read parts u a g
-  read_alike parts same u a = by_found_alike (part_read parts u a) (λ e d k. ap (λ ps. part_value (lookup (bytes_eq a) ps)) (same e d k))
+  read_alike parts same u a = by_found_alike f g h (part_read parts u a) (λ e d k. ap (λ ps. part_value (lookup (bytes_eq a) ps)) (same e d k))
 
   tested_alike : (parts : Entity V → List (Text × Part V)) → ((e d : Entity V) → Alike e d → parts e ≡ parts d) → (u : Uid) (a : Text) → part_tested parts u a f ≡ part_tested parts u a g
-  tested_alike parts same u a = by_found_alike (part_tested parts u a) (λ e d k. ap (λ ps. Some (says (is_some (lookup (bytes_eq a) ps)))) (same e d k))
+  tested_alike parts same u a = by_found_alike f g h (part_tested parts u a) (λ e d k. ap (λ ps. Some (says (is_some (lookup (bytes_eq a) ps)))) (same e d k))
 
   in_alike : (u : Uid) (v : V) → found_in u v f ≡ found_in u v g
   in_alike u v =
-      by_found_alike (found_in u v)
+      by_found_alike f g h (found_in u v)
       (λ e d k. λ i. Some (option_map_or (λ vs. says (list_any (λ y. uid_eq u y || k.ancestors y i) vs)) (uids_in v) (err wrong_type)))
 
 module _ (w : World) (store : Uid → Found V) (alike : (u : Uid) → FoundAlike (store u) (w.store u)) where
@@ -115,7 +116,15 @@ module _ (w : World) (store : Uid → Found V) (alike : (u : Uid) → FoundAlike
     same_fields no_tree_fields = refl
     same_fields (tree_field a t fs) = λ i. bind (same_outcome t i) (λ v. bind (same_fields fs i) (λ vs. Some (val (field a v vs))))
 
-pub stores_alike : (w : World) (store : Uid → Found V) (ps : List Policy) → ((u : Uid) → FoundAlike (store u) (w.store u)) → answer_of (with_store w store) ps ≡ answer_of w ps
-stores_alike w store ps alike =
-    same_answers (with_store w store) w ps
-    (λ p k. condition_asked (with_store w store) p ∙ same_outcome (with_slots w p.bindings) store alike (condition p) ∙ sym (condition_asked w p))
+module _ (w : World) (store : Uid → Found V) (alike : (u : Uid) → FoundAlike (store u) (w.store u)) where
+  policy_alike : (p : Policy) → policy_outcome (with_store w store) p ≡ policy_outcome w p
+  policy_alike p = condition_asked (with_store w store) p ∙ same_outcome (with_slots w p.bindings) store alike (condition p) ∙ sym (condition_asked w p)
+
+  pub stores_alike : (ps : List Policy) → answer_of (with_store w store) ps ≡ answer_of w ps
+  stores_alike ps = same_answers (with_store w store) w ps (λ p k. policy_alike p)
+
+  pub means_alike : (t : Tree) (r : Res V) → Means w t r → Means (with_store w store) t r
+  means_alike t r h = outcome_means (with_store w store) t r (same_outcome w store alike t ∙ means_outcome w t r h)
+
+  pub policy_means_alike : (p : Policy) (r : Res V) → PolicyMeans (with_store w store) p r → PolicyMeans w p r
+  policy_means_alike p r h = (policy_meaning_is_a_function w p r).1 (sym (policy_alike p) ∙ (policy_meaning_is_a_function (with_store w store) p r).0 h)

@@ -52,13 +52,13 @@ declarations_may_move b d moved accepted =
     })
 
 -- action entities differ in the order of their ancestors alone
-same_ancestors : (s t : Schema) → IsMoved s t → (u v : Uid) → list_any (uid_eq v) (action_ancestors t u) ≡ list_any (uid_eq v) (action_ancestors s u)
+pub same_ancestors : (s t : Schema) → IsMoved s t → (u v : Uid) → list_any (uid_eq v) (action_ancestors t u) ≡ list_any (uid_eq v) (action_ancestors s u)
 same_ancestors s t m u v =
     any_moved (uid_eq v) (action_ancestors t u) (action_ancestors s u)
     (λ y k. (ancestors_declared s u y).1 (ancestors_into t s (moved_back s t m) u y ((ancestors_declared t u y).0 k)))
     (λ y k. (ancestors_declared t u y).1 (ancestors_into s t m u y ((ancestors_declared s u y).0 k)))
 
-store_case : (s t : Schema) → IsMoved s t → (u : Uid) (o : Found V) (a b : Bool) → a ≡ b → FoundAlike (cond b (held (as_entity t u)) o) (cond a (held (as_entity s u)) o)
+pub store_case : (s t : Schema) → IsMoved s t → (u : Uid) (o : Found V) (a b : Bool) → a ≡ b → FoundAlike (cond b (held (as_entity t u)) o) (cond a (held (as_entity s u)) o)
 store_case s t m u o true true e = inr (as_entity t u, as_entity s u, refl, refl, record { attributes = refl; tags = refl; ancestors = same_ancestors s t m u })
 store_case s t m u o false false e = inl refl
 store_case s t m u o true false e = cc
@@ -73,5 +73,5 @@ moved_declarations_answer_alike c d es fs a b accepted moved run other =
     let m = schemas_moved (extension_types c.submission.table) c.submission.declarations d g.well_formed moved in
     let x = session_of (by_declarations c d) in
     course_answer c es a run
-    ∙ sym (stores_alike (course_world c) (whole_store x) c.submission.policies (λ u. store_case s t m u (if_uid u (found_as whole (c.store u))) (declares_action s u) (declares_action t u) (same_declares_action s t m u)))
+    ∙ sym (stores_alike (course_world c) (whole_store x) (λ u. store_case s t m u (if_uid u (found_as whole (c.store u))) (declares_action s u) (declares_action t u) (same_declares_action s t m u)) c.submission.policies)
     ∙ sym (course_answer (by_declarations c d) fs b other)
