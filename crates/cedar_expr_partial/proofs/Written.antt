@@ -48,7 +48,7 @@ module _ {X : Type 0} (seen : X → Extension) where
   names_kept [] = refl
   names_kept (e ∷ es) = ap (λ ns. rc_str_bytes e.0 ∷ ns) (names_kept es)
 
-  pub written_rise : (es : List (RcStr Global × Value X)) → IsStrictlySortedBy (λ a b. text_cmp (rc_str_bytes a) (rc_str_bytes b)) (keys_of es) → names_rise (map (written_pair seen) es) ≡ true
+  written_rise : (es : List (RcStr Global × Value X)) → IsStrictlySortedBy (λ a b. text_cmp (rc_str_bytes a) (rc_str_bytes b)) (keys_of es) → names_rise (map (written_pair seen) es) ≡ true
   written_rise es s = ap (rises text_cmp) (names_kept es) ∙ names_ascend es s
 
 -- the trees of fields, under their names
@@ -57,7 +57,7 @@ trees_under [] = refl
 trees_under (e ∷ es) = ap (λ ps. (rc_str_bytes e.0, tree_of e.1) ∷ ps) (trees_under es)
 
 -- fields whose names rise are the fields of their map
-pub stays_in_order : (es ps : List (RcStr Global × Expr Unit)) → names_rise (named (field_trees ps)) ≡ true → named es ≡ in_order (named ps) → named (field_trees es) ≡ named (field_trees ps)
+stays_in_order : (es ps : List (RcStr Global × Expr Unit)) → names_rise (named (field_trees ps)) ≡ true → named es ≡ in_order (named ps) → named (field_trees es) ≡ named (field_trees ps)
 stays_in_order es ps h e =
     trees_under es
     ∙ ap (map (under tree_of)) e
@@ -66,7 +66,7 @@ stays_in_order es ps h e =
     ∙ in_order_stays (named (field_trees ps)) h
 
 -- where nothing is left
-pub written_end : (es : List (RcStr Global × Expr Unit)) (rest ps : List (Text × Tree)) → rest ≡ [] → named (field_trees es) ++ rest ≡ ps → named (field_trees es) ≡ ps
+written_end : (es : List (RcStr Global × Expr Unit)) (rest ps : List (Text × Tree)) → rest ≡ [] → named (field_trees es) ++ rest ≡ ps → named (field_trees es) ≡ ps
 written_end es rest ps n h = sym (append-nil (named (field_trees es))) ∙ ap (λ qs. named (field_trees es) ++ qs) (sym n) ∙ h
 
 -- one more field behind those that are written, and one less of those that are left
@@ -76,6 +76,18 @@ field_goes done more n e p ps qs m s h = ap (λ es. named (field_trees es) ++ ps
     go : (ds : List (RcStr Global × Expr Unit)) → named (field_trees (ds ++ (n, e) ∷ [])) ++ ps ≡ named (field_trees ds) ++ ((rc_str_bytes n, tree_of e) ∷ ps)
     go [] = refl
     go (d ∷ ds) = ap (λ es. (rc_str_bytes d.0, tree_of d.1) ∷ es) (go ds)
+
+-- the map of the fields that are written
+pub fields_end : {X E : Type 0} (seen : X → Extension) (es rest : List (RcStr Global × Value X)) (done : List (RcStr Global × Expr Unit)) (q : Result (BTreeMap (RcStr Global) (Expr Unit) Global) E)
+    → rest ≡ []
+    → named (field_trees done) ++ map (written_pair seen) rest ≡ map (written_pair seen) es
+    → IsStrictlySortedBy (λ a b. text_cmp (rc_str_bytes a) (rc_str_bytes b)) (keys_of es)
+    → IfOk q (λ m. named m.entries ≡ in_order (named done))
+    → IfOk q (λ m. named (field_trees m.entries) ≡ map (written_pair seen) es)
+fields_end seen es rest done (Ok m) n h s e =
+    let all = written_end done (map (written_pair seen) rest) (map (written_pair seen) es) (ap (map (written_pair seen)) n) h in
+    stays_in_order m.entries done (ap names_rise all ∙ written_rise seen es s) e ∙ all
+fields_end seen es rest done (Err x) n h s e = tt
 
 -- what was made is another expression that is the same
 pub tree_other : {E : Type 0} (q : Result (Expr Unit) E) (t u : Tree) → t ≡ u → IfOk q (λ e. tree_of e ≡ t) → IfOk q (λ e. tree_of e ≡ u)

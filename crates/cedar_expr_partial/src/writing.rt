@@ -1,11 +1,10 @@
 //! Values written as expressions.
 
-ghost use Rattle.std.specs.Prelude.{◌≡◌, true, map, IfOk, None};
+ghost use Rattle.std.specs.Prelude.{◌≡◌, map, IfOk, None};
 ghost use Rattle.cedar_expr_leaves.specs.Literals.{literal_of};
 ghost use Rattle.cedar_expr_model.specs.Tree.{lit, record_literal};
 ghost use Rattle.cedar_expr_model.specs.Builder.{trees, tree_fields};
 ghost use Rattle.cedar_expr_model.specs.Made.{written, writtens};
-ghost use Rattle.cedar_expr_model.specs.Records.{names_rise};
 ghost use Rattle.cedar_expr_trees.specs.Trees.{tree_of, place_of, named, field_trees};
 ghost use Rattle.cedar_expr_values.specs.Values.{made, made_kind, mades, place_of as value_place};
 ghost use Rattle.cedar_expr_partial.specs.Parts.{written_pair};
@@ -69,24 +68,21 @@ fn member_exprs<X: ExtensionCall>(alloc: Global, members: &Set<X>) -> Result<Vec
 fn field_exprs<X: ExtensionCall>(
     alloc: Global,
     fields: &BTreeMap<RcStr, Value<X>>,
-) -> Result<Vec<(RcStr, Expr)>, AllocError>
-    ensures made { IfOk result (λ es. named (field_trees es.items) ≡ map (written_pair X.seen) fields.now.entries) }
-    ensures rising { IfOk result (λ es. names_rise (named (field_trees es.items)) ≡ true) }
+) -> Result<BTreeMap<RcStr, Expr>, AllocError>
+    ensures { IfOk result (λ es. named (field_trees es.entries) ≡ map (written_pair X.seen) fields.now.entries) }
 {
     let mut exprs = Vec::with_capacity(alloc, fields.len())?;
     for (name, value) in fields {
         exprs.push((name.clone()?, value_expr(alloc, value)?))?;
     }
-    Ok(exprs)
+    field_map(alloc, exprs)
 }
 
-// The record of these fields, whose names rise.
-fn record_expr(alloc: Global, fields: Vec<(RcStr, Expr)>) -> Result<Expr, AllocError>
-    requires { names_rise (named (field_trees fields.items)) ≡ true }
-    ensures tree { IfOk result (λ e. tree_of e ≡ record_literal (tree_fields (named (field_trees fields.items)))) }
+// The record of these fields.
+fn record_expr(alloc: Global, fields: BTreeMap<RcStr, Expr>) -> Result<Expr, AllocError>
+    ensures tree { IfOk result (λ e. tree_of e ≡ record_literal (tree_fields (named (field_trees fields.entries)))) }
     ensures place { IfOk result (λ e. place_of e ≡ None) }
 {
-    let fields = field_map(alloc, fields)?;
     let fields = Rc::new(alloc, fields)?;
     Ok(Expr::record_arc(fields))
 }

@@ -2,6 +2,7 @@
 use Rattle.std.proofs.Common.{◌≡◌, true, ℕ, suc, ◌+◌, ◌<◌, length, get_or, drop, drop-cons, append_assoc, arith, List, [], ◌∷◌, ◌++◌, map, Option, Some, None, Result, Ok, Err, IfOk, refl, sym, ap, ◌∙◌}
 use Rattle.std.proofs.lemmas.List.{append-nil, map-append}
 use Rattle.std.specs.declared.alloc.Global.{Global}
+use Rattle.std.specs.declared.collections.BTreeMap.{BTreeMap}
 use Rattle.std.specs.declared.rc.RcStr.{RcStr}
 use Rattle.std.specs.Rc.{rc_str_bytes}
 use Rattle.std.specs.List.Sorted.{IsStrictlySortedBy}
@@ -12,12 +13,13 @@ use Rattle.cedar_expr_model.specs.Builder.{Builder, built, built_list, built_fie
 use Rattle.cedar_expr_model.specs.Lists.{rises}
 use Rattle.cedar_expr_model.specs.Made.{Made, written}
 use Rattle.cedar_expr_model.specs.Order.{text_cmp}
-use Rattle.cedar_expr_model.specs.Records.{names_rise}
+use Rattle.cedar_expr_model.specs.Records.{names_rise, in_order}
 use Rattle.cedar_expr_model.specs.Substitution.{Bindings, substituted}
 use Rattle.cedar_expr_model.proofs.Substituting.{bound_or}
 use Rattle.cedar_expr_values.proofs.Ascending.{names_ascend}
 use Rattle.cedar_expr_trees.specs.Trees.{tree_of, named, field_trees}
 use Rattle.cedar_expr_trees.specs.declared.expr.Expr.{Expr}
+use Rattle.cedar_expr_builders.proofs.Ordered.{meant_rising}
 use Rattle.cedar_expr_substitution.proofs.InTurn.{written_stays}
 
 -- the written value of an unknown that is bound, and the unknown where it isn't
@@ -65,10 +67,19 @@ names_stay [] = refl
 names_stay (e ∷ es) = ap (λ ns. rc_str_bytes e.0 ∷ ns) (names_stay es)
 
 -- the names of what is made rise where those of the fields do
-pub made_rises : (b : Builder Tree) (es made : List (RcStr Global × Expr Unit)) → named (field_trees made) ≡ built_fields b (tree_fields (named (field_trees es))) → IsStrictlySortedBy (λ x y. text_cmp (rc_str_bytes x) (rc_str_bytes y)) (keys_of es) → names_rise (named made) ≡ true
+made_rises : (b : Builder Tree) (es made : List (RcStr Global × Expr Unit)) → named (field_trees made) ≡ built_fields b (tree_fields (named (field_trees es))) → IsStrictlySortedBy (λ x y. text_cmp (rc_str_bytes x) (rc_str_bytes y)) (keys_of es) → names_rise (named made) ≡ true
 made_rises b es made h s =
     ap (rises text_cmp) (sym (names_stay made) ∙ ap (map (λ p. p.0)) h ∙ names_built b es)
     ∙ names_ascend es s
+
+-- the map of what is made
+pub map_made : {E : Type 0} (b : Builder Tree) (es made : List (RcStr Global × Expr Unit)) (q : Result (BTreeMap (RcStr Global) (Expr Unit) Global) E)
+    → named (field_trees made) ≡ built_fields b (tree_fields (named (field_trees es)))
+    → IsStrictlySortedBy (λ x y. text_cmp (rc_str_bytes x) (rc_str_bytes y)) (keys_of es)
+    → IfOk q (λ m. named m.entries ≡ in_order (named made))
+    → IfOk q (λ m. named (field_trees m.entries) ≡ built_fields b (tree_fields (named (field_trees es))))
+map_made b es made (Ok m) h s e = meant_rising (tree_of {T = Unit}) m.entries made e (made_rises b es made h s) ∙ h
+map_made b es made (Err x) h s e = tt
 
 -- a walk along a row, in the same way
 module _ (b : Builder Tree) (xs : List (Expr Unit)) (i : ℕ) (x d : Expr Unit) where

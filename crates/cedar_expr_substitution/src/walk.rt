@@ -5,7 +5,6 @@ ghost use Rattle.std.specs.Rc.{rc_str_bytes};
 ghost use Rattle.cedar_expr_names.specs.Views.{plain_name_of};
 ghost use Rattle.cedar_expr_model.specs.Tree.{call, set_literal, record_literal};
 ghost use Rattle.cedar_expr_model.specs.Builder.{built, built_list, built_fields, path_test, trees, tree_fields};
-ghost use Rattle.cedar_expr_model.specs.Records.{names_rise};
 ghost use Rattle.cedar_expr_trees.specs.Trees.{tree_of, named, field_trees};
 ghost use Rattle.cedar_expr_substitution.specs.Replacing.{replacing};
 
@@ -149,23 +148,20 @@ fn fields_replaced<R: Replace>(
     alloc: Global,
     fields: &BTreeMap<RcStr, Expr>,
     by: &R,
-) -> Result<Vec<(RcStr, Expr)>, AllocError>
-    ensures made { IfOk result (λ rs. named (field_trees rs.items) ≡ built_fields (replacing (R.placed by.now) (R.slotted by.now)) (tree_fields (named (field_trees fields.now.entries)))) }
-    ensures rising { IfOk result (λ rs. names_rise (named rs.items) ≡ true) }
+) -> Result<BTreeMap<RcStr, Expr>, AllocError>
+    ensures { IfOk result (λ rs. named (field_trees rs.entries) ≡ built_fields (replacing (R.placed by.now) (R.slotted by.now)) (tree_fields (named (field_trees fields.now.entries)))) }
 {
     let mut made = Vec::with_capacity(alloc, fields.len())?;
     for (name, e) in fields {
         made.push((name.clone()?, replaced(alloc, e, by)?))?;
     }
-    Ok(made)
+    field_map(alloc, made)
 }
 
-// The record of these fields, whose names rise.
-fn record_expr(alloc: Global, fields: Vec<(RcStr, Expr)>) -> Result<Expr, AllocError>
-    requires { names_rise (named fields.items) ≡ true }
-    ensures { IfOk result (λ e. tree_of e ≡ record_literal (tree_fields (named (field_trees fields.items)))) }
+// The record of these fields.
+fn record_expr(alloc: Global, fields: BTreeMap<RcStr, Expr>) -> Result<Expr, AllocError>
+    ensures { IfOk result (λ e. tree_of e ≡ record_literal (tree_fields (named (field_trees fields.entries)))) }
 {
-    let fields = field_map(alloc, fields)?;
     let fields = Rc::new(alloc, fields)?;
     Ok(Expr::record_arc(fields))
 }

@@ -2,11 +2,9 @@ use Rattle.std.proofs.Common.{ap, ◌∙◌}
 use Rattle.cedar_expr_model.specs.Builder.{tree_fields}
 use Rattle.cedar_expr_model.specs.Tree.{record_literal}
 use Rattle.cedar_expr_trees.specs.Trees.{named, field_trees}
-use Rattle.cedar_expr_partial.proofs.Written.{stays_in_order}
 use Rattle.cedar_expr_partial.proofs.writing.record_expr.Goals as goal
 
 pub returns-clause-tree : goal.returns-clause-tree
 returns-clause-tree c =
     c.record_arc.ensures.tree
-    ∙ ap (λ m. record_literal (tree_fields (named (field_trees m.entries)))) c.in_ok-fields-2.ensures.ok
-    ∙ ap (λ ps. record_literal (tree_fields ps)) (stays_in_order c.in_ok-fields.fields.entries c.args.fields.items c.requires c.in_ok-fields.ensures)
+    ∙ ap (λ m. record_literal (tree_fields (named (field_trees m.entries)))) c.in_ok-fields.ensures.ok

@@ -9,7 +9,7 @@ use Rattle.cedar_expr_trees.specs.Trees.{tree_of, kind_tree, named, field_trees}
 use Rattle.cedar_expr_trees.specs.declared.expr.Expr.{Expr}
 use Rattle.cedar_expr_trees.proofs.Trees.{call_tree, set_tree, record_tree}
 use Rattle.cedar_expr_substitution.specs.Replacing.{replacing}
-use Rattle.cedar_expr_substitution.proofs.Walked.{onto, row_steps, field_steps, fields_end, made_rises}
+use Rattle.cedar_expr_substitution.proofs.Walked.{onto, row_steps, field_steps, fields_end, map_made}
 use Rattle.cedar_expr_substitution.proofs.walk.+walk.Goals as goal
 
 pub replaced-returns-in-ExtensionFunctionApp : goal.replaced-returns-in-ExtensionFunctionApp
@@ -46,12 +46,13 @@ pub fields_replaced-loop-name-preserved : goal.fields_replaced-loop-name-preserv
 fields_replaced-loop-name-preserved g t c =
     field_steps (replacing (g.R.Replace.placed c.args.by.now) (g.R.Replace.slotted c.args.by.now)) c.args.fields.now.entries c.loop-name.name-iterator c.next.new.self c.loop-name.made.items c.push.new.self.items c.in-Some.name.now c.in_ok-clone.field-0 c.in-Some.e.now c.in_ok-replaced.field-0 c.loop-name.invariant c.in-Some.ensures.steps c.in_ok-push.ensures.items c.in_ok-clone.ensures.cases c.in_ok-replaced.ensures
 
-pub fields_replaced-returns-clause-rising : goal.fields_replaced-returns-clause-rising
-fields_replaced-returns-clause-rising g t c =
+pub fields_replaced-returns : goal.fields_replaced-returns
+fields_replaced-returns g t c =
     let b = replacing (g.R.Replace.placed c.args.by.now) (g.R.Replace.slotted c.args.by.now) in
-    made_rises b c.args.fields.now.entries c.loop-name.made.items
+    map_made b c.args.fields.now.entries c.loop-name.made.items c.field_map.result
     (fields_end b c.args.fields.now.entries c.loop-name.name-iterator c.loop-name.made.items c.loop-name.invariant c.in-None.ensures.steps.0)
     c.len.ensures.ordered
+    c.field_map.ensures
 
 pub all_replaced-loop-e-preserved : goal.all_replaced-loop-e-preserved
 all_replaced-loop-e-preserved g t c =
