@@ -17,7 +17,7 @@ use Rattle.cedar_evaluator_model.specs.Members.{all_residuals}
 use Rattle.std.specs.Option.{option_map_or}
 use Rattle.cedar_expr_model.specs.Repeats.{repeated}
 
--- Why a response isn't reauthorized: an id stands twice; a variable gets no uid, or the context no record; a variable that is known
+-- Why a response isn't reauthorized: an id is repeated; a variable gets no uid, or the context no record; a variable that is known
 -- already; a uid of another type than is known of it; the context doesn't evaluate with the values.
 pub data Refusal : Type 0 where
   repeated_id : Text → Refusal

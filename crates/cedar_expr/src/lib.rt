@@ -119,7 +119,7 @@ pub mod pattern {
     pub use cedar_expr_leaves::{Pattern, PatternElem};
 }
 
-/// Maps of pairs in which no key stands twice.
+/// Maps of pairs in which no key is repeated.
 pub mod util {
     pub use cedar_expr_functions::CollectError;
     pub use cedar_expr_functions::util::collect_no_duplicates;

@@ -34,7 +34,7 @@ use std::rc::{Rc, RcStr};
 /// Makes expressions of a kind of its own. A builder has a place and data, which it gives to what it makes; each constructor uses
 /// it up. What it makes means what the builder's steps make of the parts, whatever the place and the data. It makes of `and` and
 /// of `or` of two literal truth values what it makes of their literal, and of a path of one attribute what `has_attr` makes. Want
-/// of memory aside it refuses nothing but calls, and records in which a name stands twice.
+/// of memory aside it refuses nothing but calls, and records in which a name is repeated.
 pub trait ExprBuilder: Clone + Drop {
     /// What it makes.
     type Expr: Drop;
@@ -219,7 +219,7 @@ pub trait ExprBuilder: Clone + Drop {
         self.with_maybe_source_loc(Some(source_loc))
     }
 
-    /// A record, by pairs of names and expressions. Refuses a name that stands twice, whatever stands under it, and fails when
+    /// A record, by pairs of names and expressions. Refuses a name that is repeated, whatever stands under it, and fails when
     /// out of memory.
     fn record(
         self,

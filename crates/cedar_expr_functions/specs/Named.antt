@@ -18,7 +18,7 @@ use Rattle.cedar_expr_functions.specs.declared.extension.ExtensionFunction.{Exte
 abbrev pub names_compared : Name → Name → Ordering
 names_compared m n = (name_order.ghosts).cmp m n
 
--- the names of the functions rise, so that none stands twice
+-- the names of the functions rise, so that none is repeated
 abbrev pub NamesRise : {B : _} {F : _} {g : _} → List (Bor (ExtensionFunction B F g)) → Type 0
 NamesRise fs = IsStrictlySortedBy names_compared (map (λ f. f.now.name) fs)
 

@@ -37,13 +37,13 @@ RefusesTable ss initialization.OutOfMemory = Unit {0}
 RefusesTable ss (initialization.FuncMultiplyDefined e) = table_fault ss ≡ Some (repeated_function (plain_name_of e.name))
 RefusesTable ss (initialization.MultipleConstructorsSameSignature e) = table_fault ss ≡ Some (repeated_constructor (core_of e.return_type))
 
--- A name stands twice among these. Out of memory says nothing.
+-- A name is repeated among these. Out of memory says nothing.
 abbrev pub RefusesNames : List Name → ExtensionInitializationError → Type 0
 RefusesNames ns initialization.OutOfMemory = Unit {0}
 RefusesNames ns (initialization.FuncMultiplyDefined e) = repeated name_eq ns ≡ Some (plain_name_of e.name)
 RefusesNames ns (initialization.MultipleConstructorsSameSignature e) = ⊥
 
--- A type stands twice among these. Out of memory says nothing.
+-- A type is repeated among these. Out of memory says nothing.
 abbrev pub RefusesConstructors : List CoreType → ExtensionInitializationError → Type 0
 RefusesConstructors ts initialization.OutOfMemory = Unit {0}
 RefusesConstructors ts (initialization.FuncMultiplyDefined e) = ⊥

@@ -140,7 +140,7 @@ impl From<FuncDoesNotExistError> for ExtensionFunctionLookupError {
     }
 }
 
-/// A name of a function stands twice.
+/// A name of a function is repeated.
 #[derive(Debug, Clone, PartialEq, Eq, Drop, Error)]
 #[error("extension function `{name}` is defined multiple times")]
 pub struct FuncMultiplyDefinedError {
@@ -163,7 +163,7 @@ pub enum ExtensionInitializationError {
     #[error("out of memory")]
     OutOfMemory,
 
-    /// A name of a function stands twice.
+    /// A name of a function is repeated.
     #[error(transparent)]
     FuncMultiplyDefined(FuncMultiplyDefinedError),
 

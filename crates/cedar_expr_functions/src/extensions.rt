@@ -73,7 +73,7 @@ impl<'a> Extensions<'a> {
         }
     }
 
-    /// The table of these extensions. Refuses a name of a function that stands twice, then an extension type with two
+    /// The table of these extensions. Refuses a name of a function that is repeated, then an extension type with two
     /// constructors, and fails when out of memory.
     pub fn specific_extensions(
         alloc: Global,

@@ -84,7 +84,7 @@ pub fn all_names(alloc: Global, extensions: &[Extension]) -> Result<Vec<&Name>, 
     Ok(names)
 }
 
-// The functions in the order of their names. Refuses a name that stands twice.
+// The functions in the order of their names. Refuses a name that is repeated.
 pub fn by_name<'a>(
     alloc: Global,
     functions: &[&'a ExtensionFunction],

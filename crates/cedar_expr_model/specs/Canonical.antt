@@ -1,4 +1,4 @@
--- Canonical values: the members of a set rise, so none stands twice, and the names of a record rise. The sets that are made
+-- Canonical values: the members of a set rise, so none is repeated, and the names of a record rise. The sets that are made
 -- of any members are canonical.
 -- Rule: values and equality (docs/RULES.md).
 use Rattle.std.specs.Prelude.{◌&&◌, List, [], ◌∷◌, Bool, true, false, not}
@@ -9,7 +9,7 @@ use Rattle.cedar_expr_model.specs.Order.{value_cmp, text_cmp}
 use Rattle.cedar_expr_model.specs.Lists.{rises}
 use Rattle.std.specs.List.{list_all}
 
--- each member stands before the next, so none stands twice
+-- each member stands before the next, so none is repeated
 abbrev pub are_rising : Vs → Bool
 are_rising vs = rises value_cmp (values_list vs)
 

@@ -18,7 +18,7 @@ use Rattle.cedar_expr_model.specs.Repeats.{repeated, repeated_function, repeated
 use Rattle.cedar_expr_model.specs.Table.{Signature, constructed}
 use Rattle.cedar_expr_model.specs.ValueParts.{Part, known, split, values_alone}
 
--- none stands twice
+-- none is repeated
 abbrev pub AreDistinct : {A : Type 0} → List A → Type 0
 AreDistinct [] = Unit {0}
 AreDistinct (x ∷ xs) = ¬ (Contains xs x) × AreDistinct xs
@@ -38,7 +38,7 @@ RepeatIsFirst A = (eq : A → A → Bool) → ((x y : A) → Decides (eq x y) (x
 abbrev pub function_names : List Signature → List Name
 function_names ss = map (λ (s : Signature). s.name) ss
 
--- a table has no fault exactly where no name and no type of a constructor stands twice
+-- a table has no fault exactly where no name and no type of a constructor is repeated
 abbrev pub TableFaultDecides : Type 0
 TableFaultDecides = (ss : List Signature) → (table_fault ss ≡ None) ↔ (AreDistinct (function_names ss) × AreDistinct (filter_map constructed ss))
 

@@ -24,7 +24,7 @@ abbrev pub all_given : {A B : Type 0} → (A → Option B) → List A → Option
 all_given f [] = Some []
 all_given f (x ∷ xs) = option_and_then (λ y. option_map (λ ys. y ∷ ys) (all_given f xs)) (f x)
 
--- each stands before the next, so none stands twice
+-- each stands before the next, so none is repeated
 abbrev pub rises : {A : Type 0} → (A → A → Ordering) → List A → Bool
 rises order [] = true
 rises order (x ∷ []) = true

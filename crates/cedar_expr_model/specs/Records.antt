@@ -19,7 +19,7 @@ abbrev pub in_order : {A : Type 0} → List (Text × A) → List (Text × A)
 in_order [] = []
 in_order (p ∷ ps) = pair_placed p.0 p.1 (in_order ps)
 
--- the names rise, so none stands twice
+-- the names rise, so none is repeated
 abbrev pub names_rise : {A : Type 0} → List (Text × A) → Bool
 names_rise ps = rises text_cmp (map (λ p. p.0) ps)
 

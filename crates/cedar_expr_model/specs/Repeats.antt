@@ -14,7 +14,7 @@ abbrev pub first_again : {A : Type 0} → (A → A → Bool) → List A → List
 first_again eq before [] = None
 first_again eq before (x ∷ xs) = if list_any (eq x) before then Some x else first_again eq (before ++ x ∷ []) xs
 
--- the first that stands twice, at its second place
+-- the first that is repeated, at its second place
 abbrev pub repeated : {A : Type 0} → (A → A → Bool) → List A → Option A
 repeated eq xs = first_again eq [] xs
 
@@ -27,6 +27,6 @@ pub data TableFault : Type 0 where
   repeated_function : Name → TableFault
   repeated_constructor : CoreType → TableFault
 
--- The fault of a list of functions: a name that stands twice, and then a type with two constructors.
+-- The fault of a list of functions: a name that is repeated, and then a type with two constructors.
 abbrev pub table_fault : List Signature → Option TableFault
 table_fault ss = option_or (option_map repeated_function (repeated name_eq (map (λ s. s.name) ss))) (option_map repeated_constructor (repeated core_eq (filter_map constructed ss)))

@@ -15,7 +15,7 @@ name_cmp m n = slice_cmp nat_cmp (name_text m) (name_text n)
 abbrev pub uid_cmp : Uid → Uid → Ordering
 uid_cmp u v = ordering_then (name_cmp u.kind v.kind) (slice_cmp nat_cmp u.id v.id)
 
--- each uid stands before the next, so none stands twice
+-- each uid stands before the next, so none is repeated
 abbrev pub are_rising : List Uid → Bool
 are_rising [] = true
 are_rising (u ∷ []) = true

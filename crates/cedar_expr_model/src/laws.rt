@@ -98,7 +98,7 @@ pub fn repeats_decide<A>()
     ensures first { RepeatIsFirst A }
 {}
 
-/// The fault of a table is a name that stands twice, and where there is none a type with two constructors.
+/// The fault of a table is a name that is repeated, and where there is none a type with two constructors.
 pub fn table_faults_decide()
     ensures none { TableFaultDecides }
     ensures function { FunctionFault }

@@ -10,7 +10,7 @@ use Rattle.cedar_expr_trees.specs.declared.err.DuplicateKeyError.{DuplicateKeyEr
 use Rattle.cedar_expr_trees.specs.declared.err.ExpressionConstructionError.{ExpressionConstructionError}
 use Rattle.cedar_expr_trees.specs.declared.err.ExpressionConstructionError.TheVariants.{OutOfMemory, DuplicateKey}
 
--- the key that stands twice
+-- the key that is repeated
 abbrev pub repeated_key : DuplicateKeyError → Text
 repeated_key e = rc_str_bytes e.key
 

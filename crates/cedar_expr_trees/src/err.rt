@@ -9,11 +9,11 @@ use std::alloc::{AllocError, AllocFailed};
 use std::rc::RcStr;
 use thiserror::Error;
 
-/// A key stands twice in a record.
+/// A key is repeated in a record.
 #[derive(Debug, PartialEq, Eq, Drop, Error)]
 #[error("duplicate key `{key}` {context}")]
 pub struct DuplicateKeyError {
-    /// The key that stands twice.
+    /// The key that is repeated.
     pub key: RcStr,
     /// Where it does.
     pub context: &'static str,
@@ -28,7 +28,7 @@ impl DuplicateKeyError {
         DuplicateKeyError { key, context }
     }
 
-    /// The key that stands twice.
+    /// The key that is repeated.
     pub fn key(&self) -> &str
         ensures { result.now ≡ repeated_key self.now }
     {
@@ -42,7 +42,7 @@ impl DuplicateKeyError {
         self.context
     }
 
-    /// The refusal of the key that stands twice, with this context in the place of its own.
+    /// The refusal of the key that is repeated, with this context in the place of its own.
     pub fn with_context(self, context: &'static str) -> DuplicateKeyError
         ensures key { repeated_key result ≡ repeated_key self }
         ensures context { repeated_context result ≡ context.now }
@@ -61,7 +61,7 @@ pub enum ExpressionConstructionError {
     #[error("out of memory")]
     OutOfMemory,
 
-    /// A key stands twice in a record.
+    /// A key is repeated in a record.
     #[error(transparent)]
     DuplicateKey(DuplicateKeyError),
 }

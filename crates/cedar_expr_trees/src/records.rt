@@ -18,7 +18,7 @@ use std::collections::BTreeMap;
 use std::rc::{Rc, RcStr};
 
 impl Expr {
-    /// A record, by pairs of names and expressions. Refuses a name that stands twice, whatever stands under it, and fails when
+    /// A record, by pairs of names and expressions. Refuses a name that is repeated, whatever stands under it, and fails when
     /// out of memory.
     pub fn record(
         alloc: Global,
@@ -35,7 +35,7 @@ impl Expr {
     }
 }
 
-/// The map of these pairs. Refuses a name that stands twice, whatever stands under it, and fails when out of memory.
+/// The map of these pairs. Refuses a name that is repeated, whatever stands under it, and fails when out of memory.
 pub fn field_map<V: Drop>(
     alloc: Global,
     pairs: Vec<(RcStr, V)>,

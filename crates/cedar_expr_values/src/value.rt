@@ -59,7 +59,7 @@ pub enum ValueKind<X: ExtensionValue> {
     ExtensionValue(Rc<X>),
 }
 
-/// A finite set of values. Its members rise, so none stands twice.
+/// A finite set of values. Its members rise, so none is repeated.
 #[derive_where(Debug; X)]
 #[cycle(value)]
 pub struct Set<X: ExtensionValue> {

@@ -22,7 +22,7 @@ pub record ConformsAlike (s : Schema) (k : Kept) : Type 0 where
   pub actions : (u : Uid) → declares_action s u ≡ is_some (kept_action k u)
   pub ancestors : (u v : Uid) → list_any (uid_eq v) (action_ancestors s u) ≡ list_any (uid_eq v) (kept_action_ancestors k u)
 
--- These are the declared actions as entities: each is one, none lacks, and none stands twice. Ancestors may stand in any order.
+-- These are the declared actions as entities: each is one, none lacks, and none is repeated. Ancestors may stand in any order.
 pub record AreActionEntities (s : Schema) (es : List (Uid × Entity V)) : Type 0 where
   pub each : (d : Uid × Entity V) → Contains es d → (declares_action s d.0 ≡ true) × IsSameEntity d (d.0, as_entity s d.0)
   pub all : (u : Uid) → declares_action s u ≡ true → Contains (map (λ d. d.0) es) u

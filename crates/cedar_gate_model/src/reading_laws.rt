@@ -17,7 +17,7 @@ pub fn bundles_are_in_range()
     ensures steps { LackingStepsAreNone }
 {}
 
-/// In the store of a bundle no uid stands twice, and attributes and tags are values.
+/// In the store of a bundle no uid is repeated, and attributes and tags are values.
 pub fn stores_hold_values()
     ensures once { StoredOnce }
     ensures values { StoreHoldsValues }

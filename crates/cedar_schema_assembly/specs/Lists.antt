@@ -1,4 +1,4 @@
--- Sets of names, names that stand twice, and things that are made one of each.
+-- Sets of names, names that are repeated, and things that are made one of each.
 -- Rule: descent; schemas (docs/RULES.md).
 use Rattle.std.specs.Prelude.{List, map, Option, Some, None, Contains}
 use Rattle.std.specs.BTreeSet.{BTreeSet}
@@ -10,11 +10,11 @@ pub record IsSetOf {S : Type 0} (xs ks : List S) : Type 0 where
   pub only : (s : S) → Contains ks s → Contains xs s
   pub all : (s : S) → Contains xs s → Contains ks s
 
--- none stands twice
+-- none is repeated
 pub record StandOnce {S : Type 0} (xs : List S) : Type 0 where
   pub none : HasTwice xs → ⊥
 
--- what is found stands twice; where nothing is, none does
+-- what is found is repeated; where nothing is, none does
 abbrev pub TellsRepeat : {S : Type 0} → List S → Option S → Type 0
 TellsRepeat xs None = StandOnce xs
 TellsRepeat xs (Some s) = StandsTwice xs s

@@ -66,7 +66,7 @@ TellsActions s as_ (UnknownExtensionType n) = SomeContext as_ (λ t. IsUnknownIn
 TellsActions s as_ (ReservedName r) = SomeContext as_ (λ t. IsReservedIn s.defined t (refused_name_of r))
     ⊎ ((is_reserved (refused_name_of r) ≡ true) × ((a : WrittenAction) × Contains as_ a × Contains (parent_kinds a) (refused_name_of r)))
 
--- The error tells that one of these stands twice.
+-- The error tells that one of these is repeated.
 abbrev pub TellsTypeTwice : List Name → AssemblyError → Type 0
 TellsTypeTwice ns OutOfMemory = Unit {0}
 TellsTypeTwice ns (DuplicateEntityType n) = StandsTwice ns (name_of n)
@@ -76,7 +76,7 @@ TellsTypeTwice ns (ContextNotRecord u) = ⊥
 TellsTypeTwice ns (UnknownExtensionType n) = ⊥
 TellsTypeTwice ns (ReservedName e) = ⊥
 
--- The error tells that an action stands twice, or that the type of a parent is reserved.
+-- The error tells that an action is repeated, or that the type of a parent is reserved.
 abbrev pub TellsLines : List WrittenAction → AssemblyError → Type 0
 TellsLines as_ OutOfMemory = Unit {0}
 TellsLines as_ (DuplicateEntityType n) = ⊥

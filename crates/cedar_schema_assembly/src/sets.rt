@@ -1,4 +1,4 @@
-//! Sets of names, and names that stand twice.
+//! Sets of names, and names that are repeated.
 
 ghost use Rattle.std.specs.Prelude.{◌≡◌, map, option_map, Contains, IfOk};
 ghost use Rattle.std.specs.Bool.{Decides};
@@ -85,7 +85,7 @@ pub fn has<N: Node>(set: &BTreeSet<N>, node: &N) -> bool
     set.contains(node)
 }
 
-/// The first node that stands twice, in its second place, if there is one. Fails only when out of memory.
+/// The first node that is repeated, in its second place, if there is one. Fails only when out of memory.
 pub fn first_repeated<'a, N: Node>(
     alloc: Global,
     nodes: &'a [(N, Vec<N>)],
@@ -101,7 +101,7 @@ pub fn first_repeated<'a, N: Node>(
     Ok(None)
 }
 
-/// What descends from each of these nodes, none of which stands twice. Fails only when out of memory.
+/// What descends from each of these nodes, none of which is repeated. Fails only when out of memory.
 pub fn below<N: Node>(alloc: Global, nodes: &[(N, Vec<N>)]) -> Result<Vec<BTreeSet<N>>, AllocError>
     requires { StandOnce (names_in N.seen nodes.now) }
     ensures { IfOk result (λ ss. AreDescendants (seen_nodes N.seen nodes.now) (sets_seen N.seen ss.items)) }

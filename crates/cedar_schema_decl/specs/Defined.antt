@@ -15,7 +15,7 @@ use Rattle.cedar_schema_model.specs.Reference.{ReferenceKind, Meant, meant_commo
 use Rattle.cedar_schema_decl.specs.Conditional.{Conditional, may_mean}
 use Rattle.cedar_schema_decl.specs.declared.all_defs.AllDefs.{AllDefs}
 
--- The names of the common types and of the entity types, and the actions. Each rises, so none stands twice.
+-- The names of the common types and of the entity types, and the actions. Each rises, so none is repeated.
 pub record Defined : Type 0 where
   pub commons : List Name
   pub entities : List Name

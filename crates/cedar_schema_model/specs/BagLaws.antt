@@ -29,7 +29,7 @@ FirstDeclaredIsMeant = (d : Declarations) (r : Reference) (m : Meant) → (meant
 abbrev pub FirstActionIsMeant : Type 0
 FirstActionIsMeant = (d : Declarations) (ns : Namespace) (u v : Uid) → (parent_meant d ns u ≡ Some v) ↔ IsFirst (is_declared_action d) (action_candidates ns u) v
 
--- one of them stands twice
+-- one of them is repeated
 abbrev pub HasTwice : {X : Type 0} → List X → Type 0
 HasTwice [] = ⊥
 HasTwice (x ∷ xs) = Contains xs x ⊎ HasTwice xs

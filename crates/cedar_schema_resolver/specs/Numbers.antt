@@ -25,11 +25,11 @@ pub record AreNumbers {N S : Type 0} (seen : N → S) (names : List S) (number :
   pub only : (q : N) (i : ℕ) → number q ≡ Some i → IsAt names i (seen q)
   pub all : (q : N) → Contains names (seen q) → (i : ℕ) × (number q ≡ Some i)
 
--- none stands twice
+-- none is repeated
 pub record AreOnce {S : Type 0} (names : List S) : Type 0 where
   pub none : HasTwice names → ⊥
 
--- it stands twice
+-- it is repeated
 abbrev pub StandsTwice : {S : Type 0} → List S → S → Type 0
 StandsTwice [] s = ⊥
 StandsTwice (x ∷ xs) s = ((x ≡ s) × Contains xs s) ⊎ StandsTwice xs s
@@ -38,7 +38,7 @@ StandsTwice (x ∷ xs) s = ((x ≡ s) × Contains xs s) ⊎ StandsTwice xs s
 abbrev pub StoodBefore : {S : Type 0} → List S → ℕ → Type 0
 StoodBefore {S} names i = (s : S) × IsAt names i s × Contains (take i names) s
 
--- The error tells one that stands twice, by the number of a place at which it stood before. Out of memory tells none.
+-- The error tells one that is repeated, by the number of a place at which it stood before. Out of memory tells none.
 abbrev pub TellsRepeated : {S : Type 0} → List S → RepeatedError → Type 0
 TellsRepeated names OutOfMemory = Unit {0}
 TellsRepeated names (Repeated i) = StoodBefore names i

@@ -55,7 +55,7 @@ TellsUnordered d ts (ReservedName e) = ⊥
 TellsUnordered d ts (DuplicateCommonType n) = StandsTwice (names_of ts) (name_of n)
 TellsUnordered d ts (CycleInCommonTypeReferences n) = Reaches (UsesIn d ts) (name_of n) (name_of n)
 
--- All of them, by their numbers, each once and after those that it uses. None stands twice.
+-- All of them, by their numbers, each once and after those that it uses. None is repeated.
 pub record AreSorted (d : Defined) (ts : List (Name × TypeForm Name)) (is : List ℕ) : Type 0 where
   pub graph : Graph
   pub is_graph : IsGraphOf (with_uses d ts) graph

@@ -12,7 +12,7 @@ use crate::{closure, turned};
 use std::alloc::{AllocError, Global};
 use std::collections::BTreeSet;
 
-/// The graph of the numbers of nodes, with an edge from each to each of its parents that is a node. Refuses a node that stands twice,
+/// The graph of the numbers of nodes, with an edge from each to each of its parents that is a node. Refuses a node that is repeated,
 /// and fails when out of memory.
 pub fn graph<N: Node>(
     alloc: Global,
@@ -45,7 +45,7 @@ fn sets<N: Node>(
 }
 
 /// For each of these nodes, which stand with their parents, the set of those that descend from it by one or more parents. Refuses a
-/// node that stands twice, and fails when out of memory.
+/// node that is repeated, and fails when out of memory.
 pub fn descendants<N: Node>(
     alloc: Global,
     nodes: &[(N, Vec<N>)],

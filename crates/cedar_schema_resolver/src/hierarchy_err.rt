@@ -10,7 +10,7 @@ pub enum RepeatedError {
     #[error("out of memory")]
     OutOfMemory,
 
-    /// A node stands twice.
+    /// A node is repeated.
     #[error("repeated name")]
     Repeated {
         /// The number of its second place.

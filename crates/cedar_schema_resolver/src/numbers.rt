@@ -19,7 +19,7 @@ fn name_at<N: Node>(nodes: &[(N, Vec<N>)], number: usize) -> &N
     &nodes[number].0
 }
 
-/// The numbers of the nodes, each of which stands with its parents. Refuses a node that stands twice, and fails when out of memory.
+/// The numbers of the nodes, each of which stands with its parents. Refuses a node that is repeated, and fails when out of memory.
 pub fn numbers<N: Node>(
     alloc: Global,
     nodes: &[(N, Vec<N>)],

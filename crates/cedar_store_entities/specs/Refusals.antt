@@ -21,7 +21,7 @@ abbrev pub RefusesUid : List Uid → Uid → EntitiesError → Type 0
 RefusesUid us u OutOfMemory = Unit {0}
 RefusesUid us u (Duplicate v) = (list_any (uid_eq u) us ≡ true) × (uid_of v ≡ u)
 
--- The fault is there in entities of these uids: the uid is the first that stands twice. Out of memory says nothing.
+-- The fault is there in entities of these uids: the uid is the first that is repeated. Out of memory says nothing.
 abbrev pub RefusesUids : List Uid → EntitiesError → Type 0
 RefusesUids us OutOfMemory = Unit {0}
 RefusesUids us (Duplicate u) = repeated uid_eq us ≡ Some (uid_of u)

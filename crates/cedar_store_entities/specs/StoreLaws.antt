@@ -20,7 +20,7 @@ use Rattle.cedar_store_entities.specs.declared.entities.Entities.{Entities}
 abbrev pub UidsAreUids : Type 0
 UidsAreUids = (u : EntityUID) → is_uid (uid_of u) ≡ true
 
--- no uid stands twice in a store
+-- no uid is repeated in a store
 abbrev pub StoresAreMaps : Type 0
 StoresAreMaps = (s : Entities) → are_distinct (store_seen s).entities ≡ true
 

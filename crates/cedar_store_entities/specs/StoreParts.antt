@@ -22,6 +22,6 @@ entities_in es = map (λ e. entity_pair e.1) es
 abbrev pub kept_in : List (EntityUID × Entity) → List (Uid × Kept)
 kept_in es = map (λ e. kept_pair e.1) es
 
--- no uid stands twice
+-- no uid is repeated
 abbrev pub are_apart : List (EntityUID × Entity) → Bool
 are_apart es = are_distinct (entities_in es)

@@ -77,7 +77,7 @@ impl Entities {
         }
     }
 
-    /// The whole store of these entities. Refuses a uid that stands twice, and fails when out of memory.
+    /// The whole store of these entities. Refuses a uid that is repeated, and fails when out of memory.
     pub fn from_entities(alloc: Global, entities: Vec<Entity>) -> Result<Entities, EntitiesError>
         ensures made { IfOk result (λ s. store_of whole (map entity_pair entities.items) ≡ Some (store_seen s)) }
         ensures kept { IfOk result (λ s. store_made s ≡ map kept_pair entities.items) }

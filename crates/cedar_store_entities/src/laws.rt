@@ -20,7 +20,7 @@ pub fn uids_are_uids()
     ensures { UidsAreUids }
 {}
 
-/// No uid stands twice in a store. A partial store knows less than each whole store that has its entities and lacks its absences, also
+/// No uid is repeated in a store. A partial store knows less than each whole store that has its entities and lacks its absences, also
 /// where attributes and tags that aren't values yet have become values there.
 pub fn stores_are_maps()
     ensures distinct { StoresAreMaps }

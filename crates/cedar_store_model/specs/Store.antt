@@ -62,7 +62,7 @@ stand_in u = unknown (uid_text u) (Some (entity_core u.kind))
 abbrev pub with_absence : Store → Uid → Store
 with_absence s u = record s { absent = s.absent ++ u ∷ [] }
 
--- no uid stands twice
+-- no uid is repeated
 abbrev pub are_distinct : Entities → Bool
 are_distinct es = is_none (repeated uid_eq (map (λ e. e.0) es))
 

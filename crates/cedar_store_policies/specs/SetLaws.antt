@@ -12,6 +12,6 @@ use Rattle.cedar_store_policies.specs.declared.policy_set.PolicySet.{PolicySet}
 abbrev pub PoliciesAreLinked : Type 0
 PoliciesAreLinked = (p : Policy) → policy_of p ≡ linked (template_behind p) (policy_of p).id (policy_of p).bindings
 
--- no id stands twice in a set
+-- no id is repeated in a set
 abbrev pub IdsAreDistinct : Type 0
 IdsAreDistinct = (s : PolicySet) → has_distinct_ids (set_of s) ≡ true

@@ -21,7 +21,7 @@ abbrev pub RefusesId : model.PolicySet → Text → PolicySetError → Type 0
 RefusesId s id adding.OutOfMemory = Unit {0}
 RefusesId s id (adding.Occupied i) = (is_taken id s ≡ true) × (id_text i ≡ id)
 
--- The fault is there where policies of these ids make a set: it tells the first id that stands twice. Out of memory says nothing.
+-- The fault is there where policies of these ids make a set: it tells the first id that is repeated. Out of memory says nothing.
 abbrev pub RefusesIds : List Text → PolicySetError → Type 0
 RefusesIds ids adding.OutOfMemory = Unit {0}
 RefusesIds ids (adding.Occupied i) = repeated bytes_eq ids ≡ Some (id_text i)

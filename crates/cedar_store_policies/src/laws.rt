@@ -7,7 +7,7 @@ pub fn policies_are_linked_templates()
     ensures { PoliciesAreLinked }
 {}
 
-/// No id stands twice in a set, be it a template's or a policy's.
+/// No id is repeated in a set, be it a template's or a policy's.
 pub fn ids_are_distinct()
     ensures { IdsAreDistinct }
 {}

@@ -14,7 +14,7 @@ use indexmap::map::Values;
 use std::alloc::Global;
 use std::rc::Rc;
 
-/// A set of templates and policies, in the order in which they were put in. No id stands twice in it, be it a template's or a
+/// A set of templates and policies, in the order in which they were put in. No id is repeated in it, be it a template's or a
 /// policy's.
 pub struct PolicySet {
     templates: IndexMap<PolicyID, Rc<Template>>,
@@ -58,7 +58,7 @@ impl PolicySet {
         }
     }
 
-    /// The set of these policies, in this order. Refuses an id that stands twice, and fails when out of memory.
+    /// The set of these policies, in this order. Refuses an id that is repeated, and fails when out of memory.
     pub fn try_from_iter(alloc: Global, policies: Vec<Policy>) -> Result<PolicySet, PolicySetError>
         ensures made { IfOk result (λ s. set_of s ≡ record { templates = []; policies = map policy_of policies.items }) }
         ensures distinct { IfOk result (λ s. has_distinct_ids (set_of s) ≡ true) }

@@ -221,12 +221,12 @@ abbrev pub set_literal_type : Mode → List Ty → Option Ty
 set_literal_type strict [] = None
 set_literal_type m ts = option_map set_type (reduce_to_join m ts)
 
--- no attribute stands twice
+-- no attribute is repeated
 abbrev pub has_names_once : Attributes → Bool
 has_names_once no_attributes = true
 has_names_once (attribute n t r as_) = is_none (attribute_named n as_) && has_names_once as_
 
--- A record literal is closed, its fields required, and no name stands twice in it.
+-- A record literal is closed, its fields required, and no name is repeated in it.
 abbrev pub record_literal_type : Attributes → Option Ty
 record_literal_type as_ = if has_names_once as_ then Some (record_type as_ is_closed) else None
 

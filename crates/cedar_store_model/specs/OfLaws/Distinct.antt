@@ -1,4 +1,4 @@
--- Sets of policies in which no id stands twice.
+-- Sets of policies in which no id is repeated.
 -- Rule: policies and templates (docs/RULES.md).
 use Rattle.std.specs.Prelude.{map, ◌++◌, Bool, is_none}
 use Rattle.std.specs.Str.{bytes_eq}

@@ -1,4 +1,4 @@
--- Simple types, in which each entity type stands alone and no attribute stands twice, and what typing takes from a schema.
+-- Simple types, in which each entity type stands alone and no attribute is repeated, and what typing takes from a schema.
 -- Rule: typing; schemas (docs/RULES.md).
 use Rattle.std.specs.Prelude.{◌≡◌, ◌&&◌, List, [], ◌∷◌, Bool, true, false, Option, Some, None, is_none, Contains}
 use Rattle.std.proofs.Common.{◌⊎◌}
