@@ -1,55 +1,21 @@
 -- Parts put into a set one after the other.
-use Rattle.std.proofs.Common.{◌≡◌, ◌⊎◌, ◌<◌, ◌+◌, ℕ, Bool, true, false, ◌||◌, not, List, [], ◌∷◌, ◌++◌, map, take, length, get_or, drop, zero, suc, arith, refl, sym, ap, ◌∙◌, subst, inl, inr, ⊎_elim}
+use Rattle.std.proofs.Common.{◌≡◌, ◌<◌, ◌+◌, ℕ, Bool, true, false, ◌||◌, not, List, [], ◌∷◌, ◌++◌, map, take, length, get_or, drop, zero, suc, arith, refl, sym, ap, ◌∙◌, subst, inl, inr, ⊎_elim}
 use Rattle.std.specs.Prelude.{Contains}
 use Rattle.std.specs.Bool.{Decides}
 use Rattle.std.specs.BTreeMap.{is_at}
 use Rattle.std.specs.BTreeSet.{insert_key}
 use Rattle.std.specs.List.{list_any}
-use Rattle.std.specs.Ordering.{match_ordering, is_eq}
 use Rattle.std.specs.declared.cmp.Ordering.{Ordering}
-use Rattle.std.specs.declared.cmp.Ordering.TheVariants.{Less, Equal, Greater}
 use Rattle.std.proofs.lemmas.Bool.{true≢false}
 use Rattle.std.proofs.lemmas.List.{take_more, map-append}
 use Rattle.std.proofs.lemmas.List.Elements.{Contains-append_left, Contains-push, Contains-push_cases}
 use Rattle.cedar_expr_model.proofs.Lists.{contains_head, contains_tail, contains_cases, contains_none}
 use Rattle.cedar_schema_assembly.specs.Lists.{IsSetOf, StandOnce}
 use Rattle.cedar_schema_resolver.specs.Numbers.{StandsTwice}
+use Rattle.cedar_schema_resolver.proofs.Gathering.{put_kept, put_has, put_only}
 use Rattle.cedar_schema_resolver.proofs.Places.{once_more}
 
 module _ {N S : Type 0} (seen : N → S) (cmp : N → N → Ordering) (told : (a b : N) → Decides (is_at (cmp a) b) (seen a ≡ seen b)) where
-  put_kept : (ks : List N) (k : N) (s : S) → Contains (map seen ks) s → Contains (map seen (insert_key cmp ks k)) s
-  put_kept [] k s h = absurd (contains_none s h)
-  put_kept (x ∷ xs) k s h = go (put_kept xs k s) (cmp k x)
-    where
-      go : (Contains (map seen xs) s → Contains (map seen (insert_key cmp xs k)) s) → (o : Ordering) → Contains (map seen (match_ordering o (k ∷ x ∷ xs) (x ∷ xs) (x ∷ insert_key cmp xs k))) s
-      go rest Less = contains_tail (seen k) (map seen (x ∷ xs)) s h
-      go rest Equal = h
-      go rest Greater =
-          contains_cases (Contains (map seen (x ∷ insert_key cmp xs k)) s) (seen x) (map seen xs) s h
-          (λ e. subst (λ y. Contains (seen x ∷ map seen (insert_key cmp xs k)) y) e (contains_head (seen x) (map seen (insert_key cmp xs k))))
-          (λ c. contains_tail (seen x) (map seen (insert_key cmp xs k)) s (rest c))
-
-  put_has : (ks : List N) (k : N) → Contains (map seen (insert_key cmp ks k)) (seen k)
-  put_has [] k = contains_head (seen k) []
-  put_has (x ∷ xs) k = go (put_has xs k) (cmp k x) refl
-    where
-      go : Contains (map seen (insert_key cmp xs k)) (seen k) → (o : Ordering) → cmp k x ≡ o → Contains (map seen (match_ordering o (k ∷ x ∷ xs) (x ∷ xs) (x ∷ insert_key cmp xs k))) (seen k)
-      go rest Less e = contains_head (seen k) (map seen (x ∷ xs))
-      go rest Equal e = subst (Contains (map seen (x ∷ xs))) (sym ((told k x).0 (ap is_eq e))) (contains_head (seen x) (map seen xs))
-      go rest Greater e = contains_tail (seen x) (map seen (insert_key cmp xs k)) (seen k) rest
-
-  put_only : (ks : List N) (k : N) (s : S) → Contains (map seen (insert_key cmp ks k)) s → Contains (map seen ks) s ⊎ (seen k ≡ s)
-  put_only [] k s = λ h. contains_cases (Contains (map seen []) s ⊎ (seen k ≡ s)) (seen k) [] s h inr (λ c. inl c)
-  put_only (x ∷ xs) k s = go (put_only xs k s) (cmp k x)
-    where
-      go : (Contains (map seen (insert_key cmp xs k)) s → Contains (map seen xs) s ⊎ (seen k ≡ s)) → (o : Ordering) → Contains (map seen (match_ordering o (k ∷ x ∷ xs) (x ∷ xs) (x ∷ insert_key cmp xs k))) s → Contains (map seen (x ∷ xs)) s ⊎ (seen k ≡ s)
-      go rest Less h = contains_cases (Contains (map seen (x ∷ xs)) s ⊎ (seen k ≡ s)) (seen k) (map seen (x ∷ xs)) s h inr inl
-      go rest Equal h = inl h
-      go rest Greater h =
-          contains_cases (Contains (map seen (x ∷ xs)) s ⊎ (seen k ≡ s)) (seen x) (map seen (insert_key cmp xs k)) s h
-          (λ e. inl (subst (Contains (map seen (x ∷ xs))) e (contains_head (seen x) (map seen xs))))
-          (λ c. ⊎_elim (λ m. inl (contains_tail (seen x) (map seen xs) s m)) inr (rest c))
-
   -- one more of them
   pub set_more : (xs : List S) (ks ls : List N) (k : N) (x : S) → seen k ≡ x → ls ≡ insert_key cmp ks k → IsSetOf xs (map seen ks) → IsSetOf (xs ++ x ∷ []) (map seen ls)
   set_more xs ks ls k x q e is = record {
@@ -57,10 +23,10 @@ module _ {N S : Type 0} (seen : N → S) (cmp : N → N → Ordering) (told : (a
         ⊎_elim
         (λ m. Contains-append_left xs (x ∷ []) s (is.only s m))
         (λ p. subst (Contains (xs ++ x ∷ [])) (sym q ∙ p) (Contains-push xs x))
-        (put_only ks k s (subst (λ ns. Contains (map seen ns) s) e c));
+        (put_only seen cmp told ks k s (subst (λ ns. Contains (map seen ns) s) e c));
     all = λ s c.
         subst (λ ns. Contains (map seen ns) s) (sym e)
-        (⊎_elim (λ m. put_kept ks k s (is.all s m)) (λ p. subst (Contains (map seen (insert_key cmp ks k))) (q ∙ p) (put_has ks k)) (Contains-push_cases xs x s c));
+        (⊎_elim (λ m. put_kept seen cmp told ks k s (is.all s m)) (λ p. subst (Contains (map seen (insert_key cmp ks k))) (q ∙ p) (put_has seen cmp told ks k)) (Contains-push_cases xs x s c));
   }
 
   -- one more of them, before the others
@@ -70,12 +36,12 @@ module _ {N S : Type 0} (seen : N → S) (cmp : N → N → Ordering) (told : (a
         ⊎_elim
         (λ m. contains_tail x xs s (is.only s m))
         (λ p. subst (Contains (x ∷ xs)) (sym q ∙ p) (contains_head x xs))
-        (put_only ks k s (subst (λ ns. Contains (map seen ns) s) e c));
+        (put_only seen cmp told ks k s (subst (λ ns. Contains (map seen ns) s) e c));
     all = λ s c.
         subst (λ ns. Contains (map seen ns) s) (sym e)
         (contains_cases (Contains (map seen (insert_key cmp ks k)) s) x xs s c
-        (λ p. subst (Contains (map seen (insert_key cmp ks k))) (q ∙ p) (put_has ks k))
-        (λ m. put_kept ks k s (is.all s m)));
+        (λ p. subst (Contains (map seen (insert_key cmp ks k))) (q ∙ p) (put_has seen cmp told ks k))
+        (λ m. put_kept seen cmp told ks k s (is.all s m)));
   }
 
   -- what is found in the set is there

@@ -72,7 +72,7 @@ pub fn set_of<P: Part>(alloc: Global, parts: &[P]) -> Result<BTreeSet<P>, AllocE
     ensures { IfOk result (λ s. IsSetOf (map P.seen parts.now) (map P.seen s.keys)) }
 {
     let mut set = BTreeSet::new(alloc);
-    for part in parts {
+    for part in parts.iter().rev() {
         set.insert(part.copy()?)?;
     }
     Ok(set)

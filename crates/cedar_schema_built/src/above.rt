@@ -31,7 +31,11 @@ pub(crate) fn add_above<K: Ord + Drop>(
 ) -> Result<(), AllocError>
     ensures { OnOk result (IsAdded K.cmp key ancestor (get K.cmp above.old) (get K.cmp above.new)) }
 {
-    let mut row = take_row(above, alloc, &key);
+    if let Some(row) = above.get_mut(&key) {
+        row.push(ancestor)?;
+        return Ok(());
+    }
+    let mut row = Vec::new(alloc);
     row.push(ancestor)?;
     above.insert(key, row)?;
     Ok(())

@@ -11,7 +11,7 @@ mod Declared
 pub mod Places
 mod Numbering
 pub mod Graphing
-mod Gathering
+pub mod Gathering
 mod Chains
 mod Finding
 mod Searching

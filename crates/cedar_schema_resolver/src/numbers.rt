@@ -81,7 +81,7 @@ pub fn names_at<N: Node>(
     ensures { IfOk result (λ s. AreNamesAt (names_in N.seen nodes.now) numbers.now (map N.seen s.keys)) }
 {
     let mut names = BTreeSet::new(alloc);
-    for number in numbers {
+    for number in numbers.iter().rev() {
         let name = name_at(nodes, *number).copy()?;
         names.insert(name)?;
     }
