@@ -5,7 +5,7 @@ use Rattle.cedar_expr_model.specs.Name.{Name}
 use Rattle.cedar_expr_model.specs.Table.{Signature, Table, function_style, method_style}
 use Rattle.cedar_expr_model.specs.Tree.{string_core, extension_core}
 use Rattle.cedar_expr_model.specs.Value.{V}
-use Rattle.cedar_gate_model.specs.Bundle.{Functions}
+use Rattle.cedar_evaluator_model.specs.Functions.{Functions}
 use Rattle.cedargate_functions.specs.Ranks.{rank_name, label_name, rank_answers, rank_calls}
 
 -- `rank` is a constructor, `label` a method

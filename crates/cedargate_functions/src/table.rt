@@ -86,11 +86,7 @@ fn extension_of(
 }
 
 /// The extension of `rank` and `label`, of which these come to what each answers. Fails only when out of memory.
-pub(crate) fn rank_extension(
-    alloc: Global,
-    ranks: Func,
-    labels: Func,
-) -> Result<Extension, AllocError>
+pub fn rank_extension(alloc: Global, ranks: Func, labels: Func) -> Result<Extension, AllocError>
     requires rank_callable { (a : _) (xs : _) → pre ranks a xs }
     requires label_callable { (a : _) (xs : _) → pre labels a xs }
     requires rank_answers { (a : _) (xs : _) (r : _) → post ranks a xs r → ComesTo (ranked (made_values xs.now)) r }
@@ -104,10 +100,7 @@ pub(crate) fn rank_extension(
 }
 
 /// The table of the extension, which has these two functions. Fails only when out of memory.
-pub(crate) fn table_of<'a>(
-    alloc: Global,
-    extension: &'a Extension,
-) -> Result<Extensions<'a>, AllocError>
+pub fn table_of<'a>(alloc: Global, extension: &'a Extension) -> Result<Extensions<'a>, AllocError>
     requires functions { AreRankFunctions (functions_in extension.now) }
     requires ordered { ordered_in extension.now ≡ rank_name ∷ [] }
     ensures made { IfOk result (λ t. AnswersMade t rank_calls) }
