@@ -1,8 +1,7 @@
 //! Rows of sessions of which parts of the request are unknown.
 
-use crate::desk::first_wrong;
-use cedar_expr_functions::Extensions;
-use std::test::Fail;
+use crate::rows::hold;
+use cedar_gate_examples::Made;
 
 const OPENING: &str = r#"# an unknown of the context may not be named as an entity is written
 policies only_a
@@ -34,10 +33,8 @@ answer : refused 1
 "#;
 
 #[test]
-fn a_session_is_opened_unless_a_name_means_something_else(rt: HostRuntime) -> Result<(), Fail> {
-    let table = Extensions::none(rt.alloc());
-    assert_eq!(rt; first_wrong(rt.alloc(), &table, OPENING)?.as_str(), "");
-    Ok(())
+fn a_session_is_opened_unless_a_name_means_something_else(rt: HostRuntime) -> Made<()> {
+    hold(&rt, rt.alloc(), OPENING)
 }
 
 const BINDING: &str = r#"# a forbid that always holds decides, whoever asks
@@ -169,10 +166,8 @@ answer : Allow only_a
 "#;
 
 #[test]
-fn names_are_bound_in_any_order_and_once(rt: HostRuntime) -> Result<(), Fail> {
-    let table = Extensions::none(rt.alloc());
-    assert_eq!(rt; first_wrong(rt.alloc(), &table, BINDING)?.as_str(), "");
-    Ok(())
+fn names_are_bound_in_any_order_and_once(rt: HostRuntime) -> Made<()> {
+    hold(&rt, rt.alloc(), BINDING)
 }
 
 const NEARER: &str = r#"# a principal that was loaded as the owner leads one step further
@@ -238,10 +233,8 @@ answer : Deny
 "#;
 
 #[test]
-fn a_late_binding_brings_what_was_loaded_nearer(rt: HostRuntime) -> Result<(), Fail> {
-    let table = Extensions::none(rt.alloc());
-    assert_eq!(rt; first_wrong(rt.alloc(), &table, NEARER)?.as_str(), "");
-    Ok(())
+fn a_late_binding_brings_what_was_loaded_nearer(rt: HostRuntime) -> Made<()> {
+    hold(&rt, rt.alloc(), NEARER)
 }
 
 const DEPTH: &str =
@@ -282,8 +275,6 @@ accept : refused 7
 "#;
 
 #[test]
-fn a_policy_that_meets_the_limit_decides_nothing(rt: HostRuntime) -> Result<(), Fail> {
-    let table = Extensions::none(rt.alloc());
-    assert_eq!(rt; first_wrong(rt.alloc(), &table, DEPTH)?.as_str(), "");
-    Ok(())
+fn a_policy_that_meets_the_limit_decides_nothing(rt: HostRuntime) -> Made<()> {
+    hold(&rt, rt.alloc(), DEPTH)
 }

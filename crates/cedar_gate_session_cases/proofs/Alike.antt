@@ -5,7 +5,7 @@ use Rattle.cedar_expr_model.proofs.ValueOrder.{values_decide}
 use Rattle.cedar_expr_model.specs.Table.{Called}
 use Rattle.cedar_expr_model.specs.Value.{extension}
 use Rattle.cedar_expr_functions.specs.Answers.{called_eq, agree}
-use Rattle.cedar_gate_cases.specs.Ranks.{rank_name, rank_called, GivesRank}
+use Rattle.cedar_gate_session_cases.specs.Ranks.{rank_name, rank_called, GivesRank}
 
 alike_itself : (n : Option ℕ) → called_eq (rank_called n) (rank_called n) ≡ true
 alike_itself None = name_eq_same rank_name

@@ -8,12 +8,16 @@ use cedar_store_parts::PolicyID;
 use cedar_test_exprs::{say, show};
 use std::alloc::Global;
 
-/// What is wrong with a row that says this, where it wants something else; nothing where it holds. A row that wants `..` takes anything.
-pub fn unmatched(alloc: Global, row: &str, wanted: &str, said: &str) -> Made<String> {
-    if said == wanted || wanted == ".." {
-        return Ok(String::new(alloc));
+/// Whether what is said is what the row wants, which stands behind ` : `; one that wants `..` takes anything. Where it isn't, the row is
+/// said too.
+pub fn is_wanted(said: &mut String, row: &str) -> Made<bool> {
+    let (_, wanted) = row.split_once(" : ").unwrap_or((row, ""));
+    if said.as_str() == wanted || wanted == ".." {
+        return Ok(true);
     }
-    format!(in alloc; "{row}: {said}")
+    say(said, "is what is said in the row")?;
+    say(said, row)?;
+    Ok(false)
 }
 
 /// Says the uids, or that there is none.
@@ -27,20 +31,24 @@ pub fn say_uids(alloc: Global, said: &mut String, uids: &[EntityUID]) -> Made<()
     Ok(())
 }
 
-/// Says each list behind the word `round`.
-pub fn say_lists(alloc: Global, said: &mut String, lists: &[Vec<EntityUID>]) -> Made<()> {
-    if lists.is_empty() {
+/// Says the uids of a round.
+pub fn say_round(alloc: Global, said: &mut String, uids: &[EntityUID]) -> Made<()> {
+    say(said, "round")?;
+    say_uids(alloc, said, uids)
+}
+
+/// Says the uids of each round.
+pub fn say_rounds(alloc: Global, said: &mut String, rounds: &[Vec<EntityUID>]) -> Made<()> {
+    if rounds.is_empty() {
         return say(said, "nothing");
     }
-    for uids in lists {
-        say(said, "round")?;
-        say_uids(alloc, said, uids.as_slice())?;
+    for uids in rounds {
+        say_round(alloc, said, uids.as_slice())?;
     }
     Ok(())
 }
 
-/// Says the ids.
-pub fn say_ids(said: &mut String, ids: &[PolicyID]) -> Made<()> {
+fn say_ids(said: &mut String, ids: &[PolicyID]) -> Made<()> {
     for it in ids {
         say(said, it.as_str())?;
     }

@@ -1,9 +1,7 @@
 //! Rows of what the gate accepts and refuses, of its warnings, and of which policies may decide.
 
-use crate::desk::first_wrong;
-use cedar_expr_functions::Extensions;
-use cedar_gate::NestLimit;
-use std::test::Fail;
+use crate::rows::hold;
+use cedar_gate_examples::{Made, NestLimit};
 
 const REACH: &str = r#"# the boss of the owner lies two steps away
 level 1
@@ -67,10 +65,8 @@ violation : q requires 2 at principal .boss .ok
 "#;
 
 #[test]
-fn each_policy_that_reaches_too_far_is_told(rt: HostRuntime) -> Result<(), Fail> {
-    let table = Extensions::none(rt.alloc());
-    assert_eq!(rt; first_wrong(rt.alloc(), &table, REACH)?.as_str(), "");
-    Ok(())
+fn each_policy_that_reaches_too_far_is_told(rt: HostRuntime) -> Made<()> {
+    hold(&rt, rt.alloc(), REACH)
 }
 
 const REFUSED: &str = r#"# two fragments declare a type
@@ -130,10 +126,8 @@ accept : done
 "#;
 
 #[test]
-fn a_refusal_has_the_number_of_its_fault(rt: HostRuntime) -> Result<(), Fail> {
-    let table = Extensions::none(rt.alloc());
-    assert_eq!(rt; first_wrong(rt.alloc(), &table, REFUSED)?.as_str(), "");
-    Ok(())
+fn a_refusal_has_the_number_of_its_fault(rt: HostRuntime) -> Made<()> {
+    hold(&rt, rt.alloc(), REFUSED)
 }
 
 const RELEVANT: &str = r#"# what asks whether a user is a document is impossible
@@ -180,12 +174,8 @@ policies_for Robot Action::view Doc : none
 "#;
 
 #[test]
-fn impossible_policies_are_warned_of_and_irrelevant_ones_left_out(
-    rt: HostRuntime,
-) -> Result<(), Fail> {
-    let table = Extensions::none(rt.alloc());
-    assert_eq!(rt; first_wrong(rt.alloc(), &table, RELEVANT)?.as_str(), "");
-    Ok(())
+fn impossible_policies_are_warned_of_and_irrelevant_ones_left_out(rt: HostRuntime) -> Made<()> {
+    hold(&rt, rt.alloc(), RELEVANT)
 }
 
 const SPLIT: &str = r#"# declarations in one fragment
@@ -204,10 +194,8 @@ run : round Doc::"d" User::"a" round User::"b" answer Deny not_ok
 "#;
 
 #[test]
-fn it_does_not_matter_how_declarations_are_split(rt: HostRuntime) -> Result<(), Fail> {
-    let table = Extensions::none(rt.alloc());
-    assert_eq!(rt; first_wrong(rt.alloc(), &table, SPLIT)?.as_str(), "");
-    Ok(())
+fn it_does_not_matter_how_declarations_are_split(rt: HostRuntime) -> Made<()> {
+    hold(&rt, rt.alloc(), SPLIT)
 }
 
 #[test]

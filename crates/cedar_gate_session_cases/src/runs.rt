@@ -1,102 +1,7 @@
-//! Runs: what they did, and the answer or why they stopped. And their rows.
+//! Rows of runs: what they did, and the answer or why they stopped.
 
-use crate::desk::first_wrong;
-use crate::said::{decision_word, say_response, say_uids};
-use crate::setup::Made;
-use crate::shelf::Shelf;
-use cedar_evaluator_requests::Request;
-use cedar_expr_functions::Extensions;
-use cedar_gate::{Entry, Gate, Host, RunFault, Step, Transcript, run};
-use cedar_test_exprs::{both, say, show, value, word};
-use std::alloc::{AllocError, Global};
-use std::test::Fail;
-
-// The step that a word tells: `load`, `decide`, or `t=5` for a binding of a name to a value.
-fn step(alloc: Global, text: &str) -> Made<Step> {
-    match text.split_once('=') {
-        Some((name, text)) => {
-            let (name, value) = both(word(alloc, name), value(alloc, text))?;
-            Ok(Step::Bind(name, value))
-        }
-        None => match text {
-            "load" => Ok(Step::Load),
-            "decide" => Ok(Step::Decide),
-            _ => Err(AllocError),
-        },
-    }
-}
-
-// The steps that these words tell.
-fn steps(alloc: Global, text: &str) -> Made<Vec<Step>> {
-    let mut steps = Vec::new(alloc);
-    for text in text.split(' ') {
-        if !text.is_empty() {
-            steps.push(step(alloc, text)?)?;
-        }
-    }
-    Ok(steps)
-}
-
-// Says what was done.
-fn say_entries(alloc: Global, said: &mut String, entries: &[Entry]) -> Made<()> {
-    for entry in entries {
-        match entry {
-            Entry::Round(uids) => {
-                say(said, "round")?;
-                say_uids(alloc, said, uids.as_slice())?;
-            }
-            Entry::Bound(name) => {
-                say(said, "bound")?;
-                say(said, name.as_str())?;
-            }
-            Entry::Decided(decision) => {
-                say(said, "decided")?;
-                say(said, decision_word(*decision))?;
-            }
-        }
-    }
-    Ok(())
-}
-
-// Says what was done, and the answer.
-fn say_transcript(alloc: Global, said: &mut String, transcript: &Transcript) -> Made<()> {
-    say_entries(alloc, said, transcript.entries.as_slice())?;
-    match &transcript.answer {
-        Some(response) => {
-            say(said, "answer")?;
-            say_response(alloc, said, response)
-        }
-        None => Ok(()),
-    }
-}
-
-// Says what was done, and why the run stopped: the number of the fault, and the fault itself, which names the refusal.
-fn say_stopped(alloc: Global, said: &mut String, fault: &RunFault) -> Made<()> {
-    say_transcript(alloc, said, fault.transcript())?;
-    say(said, "stopped")?;
-    show(alloc, said, &fault.number())?;
-    say(said, "since")?;
-    show(alloc, said, fault)
-}
-
-/// Says what a run of these steps over the shelf comes to.
-pub fn say_run(
-    alloc: Global,
-    gate: &Gate<'_, '_, '_>,
-    request: Request,
-    text: &str,
-    shelf: &mut Shelf,
-    said: &mut String,
-) -> Made<()> {
-    if shelf.failures() == u64::MAX {
-        return Err(AllocError);
-    }
-    let steps = steps(alloc, text)?;
-    match run(alloc, gate, request, steps, shelf) {
-        Ok(transcript) => say_transcript(alloc, said, &transcript),
-        Err(fault) => say_stopped(alloc, said, &fault),
-    }
-}
+use crate::rows::hold;
+use cedar_gate_examples::Made;
 
 const ANSWERED: &str = r#"# a run loads round by round, asks for what is near alone, and answers
 level 2
@@ -145,10 +50,8 @@ asked : round Doc::"d" round User::"b" round User::"a"
 "#;
 
 #[test]
-fn a_run_asks_for_its_rounds_and_answers(rt: HostRuntime) -> Result<(), Fail> {
-    let table = Extensions::none(rt.alloc());
-    assert_eq!(rt; first_wrong(rt.alloc(), &table, ANSWERED)?.as_str(), "");
-    Ok(())
+fn a_run_asks_for_its_rounds_and_answers(rt: HostRuntime) -> Made<()> {
+    hold(&rt, rt.alloc(), ANSWERED)
 }
 
 const STOPPED: &str = r#"# a host fails at its second fetch: its count of failures rises by one
@@ -170,7 +73,7 @@ failures : 1
 # a host leaves one out: nothing is done yet
 level 2
 policies boss
-host omits Doc::d
+host answers User::a
 accept : done
 run : stopped 3 since what is supplied is refused, by refusal 2
 asked : round Doc::"d" User::"a"
@@ -178,26 +81,26 @@ failures : 0
 # it leaves one out in the second round
 level 2
 policies boss
-host omits User::b
+host answers Doc::d User::a
 accept : done
 run : round Doc::"d" User::"a" stopped 3 since what is supplied is refused, by refusal 2
 asked : round Doc::"d" User::"a" round User::"b"
 # it answers twice to one
 level 2
 policies boss
-host repeats User::a
+host answers Doc::d User::a User::a
 accept : done
 run : stopped 3 since what is supplied is refused, by refusal 3
 # it answers to one that is not wanted
 level 2
 policies boss
-host adds User::z
+host answers Doc::d User::a User::z
 accept : done
 run : stopped 3 since what is supplied is refused, by refusal 1
 # it answers with the entity of another
 level 2
 policies boss
-host gives User::a User::b
+host answers Doc::d User::a=User::b
 accept : done
 run : stopped 3 since what is supplied is refused, by refusal 4
 # it answers with an entity that does not conform
@@ -232,8 +135,35 @@ run principal=Doc::d : bound principal stopped 5 since no answer is given, by re
 "#;
 
 #[test]
-fn a_run_that_stops_tells_why_and_what_it_did(rt: HostRuntime) -> Result<(), Fail> {
-    let table = Extensions::none(rt.alloc());
-    assert_eq!(rt; first_wrong(rt.alloc(), &table, STOPPED)?.as_str(), "");
-    Ok(())
+fn a_run_that_stops_tells_why_and_what_it_did(rt: HostRuntime) -> Made<()> {
+    hold(&rt, rt.alloc(), STOPPED)
+}
+
+const HONEST: &str =
+    r#"# an honest host fails in the second round: the run ends there, and each failure is counted
+level 2
+policies boss
+host fails 2
+accept : done
+failures : 0
+asked : nothing
+run decide load decide : decided None round Doc::"d" User::"a" decided None stopped 1 since the host failed
+failures : 1
+asked : round Doc::"d" User::"a"
+run : stopped 1 since the host failed
+failures : 2
+asked : round Doc::"d" User::"a"
+# it fails in a round that isn't reached, and nothing is counted
+level 2
+policies boss
+host fails 3
+accept : done
+run : round Doc::"d" User::"a" round User::"b" answer Allow boss
+failures : 0
+asked : round Doc::"d" User::"a" round User::"b"
+"#;
+
+#[test]
+fn an_honest_host_that_fails_ends_the_run(rt: HostRuntime) -> Made<()> {
+    hold(&rt, rt.alloc(), HONEST)
 }

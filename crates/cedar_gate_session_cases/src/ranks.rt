@@ -9,19 +9,18 @@ ghost use Rattle.cedar_expr_values.specs.Extensions.{extension_of};
 ghost use Rattle.cedar_expr_values.specs.Values.{bare};
 ghost use Rattle.cedar_expr_names.specs.Views.{plain_name_of};
 ghost use Rattle.std.specs.Prelude.{IfOk};
-ghost use Rattle.cedar_gate_cases.specs.Ranks.{rank_name, rank_number, rank_written, rank_called, GivesRank};
+ghost use Rattle.cedar_gate_session_cases.specs.Ranks.{rank_name, rank_number, rank_written, rank_called, GivesRank};
 
-use crate::desk::first_wrong;
-use crate::setup::Made;
 use cedar_expr_functions::{
     CallFault, CallStyle, Extension, ExtensionFunction, ExtensionOutputValue, Extensions, Func,
 };
 use cedar_expr_names::Name;
 use cedar_expr_values::{ExtValue, Literal, Type, Value, ValueKind};
+use cedar_gate_examples::{Made, first_wrong};
 use cedar_test_exprs::made;
 use std::alloc::{AllocError, Global};
+use std::process::Abort;
 use std::rc::Rc;
-use std::test::Fail;
 
 type V = Value<ExtValue>;
 
@@ -99,24 +98,36 @@ fn rank(alloc: Global, args: &[V], honest: bool) -> Result<ExtensionOutputValue,
     }
 }
 
-// The first wrong row of the text over a table with `rank`.
+// Asserts that all rows of the text hold over a table with `rank`.
 #[tactic(auto, using(crate::proofs::Alike::ranks_alike))]
-fn wrong_over_ranks(alloc: Global, honest: bool, text: &str) -> Made<String> {
-    let func: Func = Box::new(
-        alloc,
-        move |alloc: Global, args: &[V]| rank(alloc, args, honest),
-    )?;
+fn hold_over_ranks(rt: &impl Abort, alloc: Global, honest: bool, text: &str) -> Made<()> {
+    let called = rank_name(alloc)?;
     let given = Type::Extension {
         name: rank_name(alloc)?,
     };
     let style = CallStyle::FunctionStyle;
-    let called = rank_name(alloc)?;
+    let func: Func = Box::new(
+        alloc,
+        move |alloc: Global, args: &[V]| rank(alloc, args, honest),
+    )?;
     let asked = ExtensionFunction::unary(alloc, called, style, func, given, Type::String)?;
-    let functions = vec![in alloc; asked]?;
+    hold_by(rt, alloc, ordering_ranks(alloc, asked), text)
+}
+
+// The extension of this function, in which ranks are ordered.
+fn ordering_ranks(alloc: Global, function: ExtensionFunction) -> Made<Extension> {
+    let functions = vec![in alloc; function]?;
     let ordered = vec![in alloc; rank_name(alloc)?]?;
-    let extensions = [Extension::new(rank_name(alloc)?, functions, ordered)];
-    let table = made(Extensions::specific_extensions(alloc, &extensions))?;
-    first_wrong(alloc, &table, text)
+    Ok(Extension::new(rank_name(alloc)?, functions, ordered))
+}
+
+// Asserts that all rows of the text hold over the table of the extension.
+fn hold_by(rt: &impl Abort, alloc: Global, extension: Made<Extension>, text: &str) -> Made<()> {
+    let extension = extension?;
+    let table = made(Extensions::specific_extensions(alloc, std::slice::from_ref(&extension)))?;
+    let wrong = first_wrong(alloc, &table, text)?;
+    assert_eq!(rt; wrong.as_str(), "");
+    Ok(())
 }
 
 const RANKS: &str = r#"# ranks are ordered by their number, not by the text that was written
@@ -190,9 +201,8 @@ run : answer Deny error while evaluating policy `p`: error while evaluating `ran
 "#;
 
 #[test]
-fn ranks_are_bound_loaded_and_compared(rt: HostRuntime) -> Result<(), Fail> {
-    assert_eq!(rt; wrong_over_ranks(rt.alloc(), true, RANKS)?.as_str(), "");
-    Ok(())
+fn ranks_are_bound_loaded_and_compared(rt: HostRuntime) -> Made<()> {
+    hold_over_ranks(&rt, rt.alloc(), true, RANKS)
 }
 
 // What is wanted of the calls isn't said here: only that each returns.
@@ -241,7 +251,6 @@ answer : ..
 #[test]
 fn each_call_returns_where_values_are_not_written_as_calls_that_give_them(
     rt: HostRuntime,
-) -> Result<(), Fail> {
-    assert_eq!(rt; wrong_over_ranks(rt.alloc(), false, UNFAIR)?.as_str(), "");
-    Ok(())
+) -> Made<()> {
+    hold_over_ranks(&rt, rt.alloc(), false, UNFAIR)
 }

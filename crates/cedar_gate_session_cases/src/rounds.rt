@@ -1,8 +1,7 @@
 //! Rows of sessions whose request is known: rounds, early decisions, bounds and answers.
 
-use crate::desk::first_wrong;
-use cedar_expr_functions::Extensions;
-use std::test::Fail;
+use crate::rows::hold;
+use cedar_gate_examples::Made;
 
 const ROUNDS: &str = r#"# the owner comes in the second round, and a stranger never
 level 2
@@ -96,10 +95,8 @@ answer : Deny error while evaluating policy `overflow`: integer overflow while a
 "#;
 
 #[test]
-fn entities_are_wanted_round_by_round(rt: HostRuntime) -> Result<(), Fail> {
-    let table = Extensions::none(rt.alloc());
-    assert_eq!(rt; first_wrong(rt.alloc(), &table, ROUNDS)?.as_str(), "");
-    Ok(())
+fn entities_are_wanted_round_by_round(rt: HostRuntime) -> Made<()> {
+    hold(&rt, rt.alloc(), ROUNDS)
 }
 
 const EARLY: &str = r#"# a permit that holds decides, whatever the others come to
@@ -161,10 +158,8 @@ answer : Deny nobody
 "#;
 
 #[test]
-fn a_decision_comes_as_soon_as_what_is_known_forces_it(rt: HostRuntime) -> Result<(), Fail> {
-    let table = Extensions::none(rt.alloc());
-    assert_eq!(rt; first_wrong(rt.alloc(), &table, EARLY)?.as_str(), "");
-    Ok(())
+fn a_decision_comes_as_soon_as_what_is_known_forces_it(rt: HostRuntime) -> Made<()> {
+    hold(&rt, rt.alloc(), EARLY)
 }
 
 const HOSTILE: &str = r#"# each wrong answer is refused, and the same is wanted as before
@@ -206,8 +201,6 @@ answer : Allow only_a
 "#;
 
 #[test]
-fn a_wrong_answer_is_refused_and_nothing_changes(rt: HostRuntime) -> Result<(), Fail> {
-    let table = Extensions::none(rt.alloc());
-    assert_eq!(rt; first_wrong(rt.alloc(), &table, HOSTILE)?.as_str(), "");
-    Ok(())
+fn a_wrong_answer_is_refused_and_nothing_changes(rt: HostRuntime) -> Made<()> {
+    hold(&rt, rt.alloc(), HOSTILE)
 }
