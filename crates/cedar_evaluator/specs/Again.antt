@@ -41,7 +41,7 @@ pub record FitsAgain (w : World) (x : Step) : Type 0 where
   pub means : (n : Text) → Keeps (option_map bare (x.values n)) (w.unknowns n)
   pub bound : (n : Text) → IfSome (x.values n) (IsRepresented w.table)
 
--- The world completes what a response leaves open: its request, of whose extension values each is what its call gives, and the annotations
+-- The world completes what a response leaves unknown: its request, of whose extension values each is what its call gives, and the annotations
 -- of what is left of the policies fit.
 pub record CompletesLeft (w : World) (r : Response) : Type 0 where
   pub request : MeansRequest w r.request
@@ -50,7 +50,7 @@ pub record CompletesLeft (w : World) (r : Response) : Type 0 where
 
 -- The second response is what the first becomes by this step. What completes the first and fits the step completes the second too; there
 -- each policy is satisfied by the one exactly where it is by the other, and a decision is that of what was left of the policies. Where all
--- is known nothing stays open, and the answer is that to what was left.
+-- is known no residual stays, and the answer is that to what was left.
 pub record IsAgain (x : Step) (r q : Response) : Type 0 where
   pub completes : (w : World) → FitsAgain w x → CompletesLeft w r → CompletesLeft w q
   pub keeps : (w : World) → FitsAgain w x → CompletesLeft w r → met_limit q ≡ false → (i : Text) (p : Policy) → get r i ≡ Some p → IsKept w q p

@@ -5,7 +5,7 @@ use Rattle.std.specs.List.{cons_option}
 use Rattle.cedar_expr_model.specs.Tree.{Tree}
 use Rattle.cedar_store_model.specs.Policy.{Policy, Effect, permit, forbid}
 use Rattle.cedar_evaluator_model.specs.Scope.{Left}
-use Rattle.cedar_evaluator_model.specs.Response.{PartialRequest, Noted, ErrorState, ResponseError, Response, of_effect, if_true, if_false, if_residual, if_stopped}
+use Rattle.cedar_evaluator_model.specs.Response.{PartialRequest, Noted, noted, Cause, ErrorState, with_error as erred, ResponseError, Response, of_effect, if_true, if_false, if_residual, if_stopped}
 use Rattle.cedar_evaluator_requests.specs.Views.{error_of}
 use Rattle.cedar_evaluator_requests.specs.Groups.{noted_seen, false_seen, residual_seen, each_once}
 use Rattle.cedar_evaluator.specs.declared.gathering.Gathering.{Gathering}
@@ -54,6 +54,20 @@ with_residual r forbid n = record r { residual_forbids = r.residual_forbids ++ n
 
 abbrev pub with_error : Response → ResponseError → Response
 with_error r e = record r { errors = r.errors ++ e ∷ [] }
+
+-- one policy more: true, false with whether it erred, or with what is left of it
+abbrev pub true_noted : Response → Policy → Response
+true_noted r p = with_true r p.effect (noted p)
+
+abbrev pub false_noted : Response → Policy → ErrorState → Response
+false_noted r p s = with_false r p.effect (noted p, s)
+
+abbrev pub residual_noted : Response → Policy → Tree → Response
+residual_noted r p t = with_residual r p.effect (noted p, t)
+
+-- one policy more that erred, and its error
+abbrev pub error_noted : Response → Policy → Cause → Response
+error_noted r p c = with_false (with_error r (record { id = p.id; cause = c })) p.effect (noted p, erred)
 
 -- what each group takes of a policy of this effect, at its end
 abbrev pub with_parts : Response → Effect → Option Noted → Option (Noted × ErrorState) → Option (Noted × Tree) → Option ResponseError → Response

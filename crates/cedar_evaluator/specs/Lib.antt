@@ -1,4 +1,6 @@
 pub mod Again
+pub mod Answered
+pub mod Asked
 pub mod Authorizers
 pub mod Completed
 pub mod Copies

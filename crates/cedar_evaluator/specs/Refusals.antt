@@ -21,7 +21,7 @@ set_refusal (adding.Occupied i) = reauthorization.PolicySetError (adding.Occupie
 abbrev pub as_reauthorization : ConcretizationError → ReauthorizationError
 as_reauthorization e = if is_request_memory e then reauthorization.OutOfMemory else reauthorization.ConcretizationError e
 
--- whether it is out of memory, and which refusal of the model it tells
+-- whether it is out of memory, and which refusal of the model it reports
 abbrev pub is_set_memory : PolicySetError → Bool
 is_set_memory adding.OutOfMemory = true
 is_set_memory (adding.Occupied i) = false

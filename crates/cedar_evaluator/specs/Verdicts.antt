@@ -17,7 +17,7 @@ left_seen False = value_left (made_prim (truth false))
 left_seen (Residual e) = residual (tree_of e)
 left_seen (Erred e) = stopped (stop_or limit e)
 
--- an error tells why the evaluation stopped
+-- an error reports why the evaluation stopped
 abbrev pub TellsStop : Verdict → Type 0
 TellsStop (Erred e) = cause_of e ≡ stops (stop_or limit e)
 TellsStop v = Unit {0}

@@ -1,27 +1,16 @@
 //! Authorizers.
 
-ghost use Rattle.std.specs.Prelude.{◌≡◌, IfOk};
-ghost use Rattle.cedar_store_model.specs.Answer as model;
-ghost use Rattle.cedar_store_model.specs.Policy.{no_bindings};
-ghost use Rattle.cedar_store_model.specs.World.{World};
+ghost use Rattle.std.specs.Prelude.{◌≡◌};
 ghost use Rattle.cedar_store_policies.specs.PolicySets.{set_of};
-ghost use Rattle.cedar_evaluator_model.specs.Known.{known_world};
-ghost use Rattle.cedar_evaluator_model.specs.Laws.{as_concrete, IsReady};
-ghost use Rattle.cedar_evaluator_model.specs.Members.{concretize, decision};
-ghost use Rattle.cedar_evaluator_model.specs.Reauthorize.{request_bound};
-ghost use Rattle.cedar_evaluator_model.specs.Response.{PartialRequest, response_of};
-ghost use Rattle.cedar_evaluator_errors.specs.Calls.{Functions};
-ghost use Rattle.cedar_evaluator_reads.specs.Scopes.{values_in};
-ghost use Rattle.cedar_evaluator_core.specs.Evaluators.{asked_of, table_in, limit_of, scope_in};
-ghost use Rattle.cedar_evaluator_requests.specs.Views.{request_of, answer_of};
-ghost use Rattle.cedar_evaluator.specs.Responses.{response_seen};
-ghost use Rattle.cedar_evaluator.specs.Gathering.{gathered};
-ghost use Rattle.cedar_evaluator_contexts.specs.Refusals.{Takes};
-ghost use Rattle.cedar_evaluator_contexts.specs.Functions.{HasFunctionsOf};
-ghost use Rattle.cedar_evaluator_model.specs.Scope.{Scope};
-ghost use Rattle.cedar_evaluator.specs.Completed.{HoldsIn, IsCompletionFor, IsForced};
+ghost use Rattle.cedar_evaluator_model.specs.Laws.{IsReady};
+ghost use Rattle.cedar_evaluator_model.specs.Response.{response_of};
+ghost use Rattle.cedar_evaluator_core.specs.Evaluators.{asked_of};
+ghost use Rattle.cedar_evaluator_contexts.specs.Refusals.{TakesValues};
+ghost use Rattle.cedar_evaluator_contexts.specs.Functions.{ForScopes};
+ghost use Rattle.cedar_evaluator.specs.Answered.{answer_left, answer_meant, Answers, Responds, HoldsInCompletions, DecidesForced, Gathers};
+ghost use Rattle.cedar_evaluator.specs.Asked.{ForRequest, ForEvaluator, ForAsked};
 ghost use Rattle.cedar_evaluator.specs.Decisions.{IsClosedFor};
-ghost use Rattle.cedar_evaluator.specs.Scopes.{scope_for};
+ghost use Rattle.cedar_evaluator.specs.Scopes.{with_values};
 
 use crate::gathering::Gathering;
 use crate::partial_response::PartialResponse;
@@ -95,8 +84,8 @@ impl<'a, T: FunctionTable> Authorizer<'a, T> {
         policies: &PolicySet,
         entities: &Entities,
     ) -> Result<Response, AllocError>
-        ensures response { (fs : Functions) → T.answers_as (asks_table self.now) fs.calls → IfOk result (λ a. answer_of a ≡ concretize (response_of (scope_for T.table (asks_table self.now) (request_of q) entities.now fs) (keeps_limit self.now) (set_of policies.now).policies)) }
-        ensures meaning { (fs : Functions) → T.answers_as (asks_table self.now) fs.calls → IsClosedFor (scope_for T.table (asks_table self.now) (request_of q) entities.now fs) (keeps_limit self.now) (set_of policies.now).policies → IfOk result (λ a. answer_of a ≡ as_concrete (model.answer_of (known_world (scope_for T.table (asks_table self.now) (request_of q) entities.now fs)) (set_of policies.now).policies)) }
+        ensures response { ForRequest T.table T.answers_as self.now q entities.now policies.now (λ s n ps. Answers (answer_left s n ps) result) }
+        ensures meaning { ForRequest T.table T.answers_as self.now q entities.now policies.now (λ s n ps. IsClosedFor s n ps → Answers (answer_meant s ps) result) }
     {
         let response = self.is_authorized_core(alloc, q, policies, entities)?;
         response.concretize(alloc)
@@ -111,9 +100,9 @@ impl<'a, T: FunctionTable> Authorizer<'a, T> {
         policies: &PolicySet,
         entities: &Entities,
     ) -> Result<PartialResponse, AllocError>
-        ensures response { (fs : Functions) → T.answers_as (asks_table self.now) fs.calls → IfOk result (λ r. response_seen r ≡ response_of (scope_for T.table (asks_table self.now) (request_of q) entities.now fs) (keeps_limit self.now) (set_of policies.now).policies) }
-        ensures completions { (fs : Functions) → T.answers_as (asks_table self.now) fs.calls → (w : World) → IsCompletionFor w (scope_for T.table (asks_table self.now) (request_of q) entities.now fs) (set_of policies.now).policies → IfOk result (λ r. HoldsIn w (set_of policies.now).policies (response_seen r)) }
-        ensures owed { (fs : Functions) → T.answers_as (asks_table self.now) fs.calls → IsReady (scope_for T.table (asks_table self.now) (request_of q) entities.now fs) (keeps_limit self.now) (set_of policies.now).policies → IfOk result (λ r. IsForced (known_world (scope_for T.table (asks_table self.now) (request_of q) entities.now fs)) (set_of policies.now).policies (decision (response_seen r))) }
+        ensures response { ForRequest T.table T.answers_as self.now q entities.now policies.now (λ s n ps. Responds (response_of s n ps) result) }
+        ensures completions { ForRequest T.table T.answers_as self.now q entities.now policies.now (λ s n ps. HoldsInCompletions s ps result) }
+        ensures owed { ForRequest T.table T.answers_as self.now q entities.now policies.now (λ s n ps. IsReady s n ps → DecidesForced s ps result) }
     {
         ids_are_distinct();
         let request = Rc::new(alloc, q.clone()?)?;
@@ -128,7 +117,7 @@ impl<'a, T: FunctionTable> Authorizer<'a, T> {
         request: &Request,
         mapping: &HashMap<RcStr, V>,
     ) -> Result<Request, ConcretizationError>
-        ensures { (s : Scope) → HasFunctionsOf T.table T.answers_as (asks_table self.now) s → Takes request_of (request_bound s (values_in mapping.now) (request_of request.now)) result }
+        ensures { ForScopes T.table T.answers_as (asks_table self.now) (λ s. TakesValues s mapping.now request.now result) }
     {
         concretized(alloc, self.table, request, mapping)
     }
@@ -142,7 +131,7 @@ impl<'a, T: FunctionTable> Authorizer<'a, T> {
         policies: &PolicySet,
         entities: &Entities,
     ) -> Result<PartialResponse, AllocError>
-        ensures { (fs : Functions) → T.answers_as (asks_table self.now) fs.calls → IfOk result (λ r. response_seen r ≡ response_of (record (scope_for T.table (asks_table self.now) (request_of q) entities.now fs) { values = values_in mapping.now }) (keeps_limit self.now) (set_of policies.now).policies) }
+        ensures { ForRequest T.table T.answers_as self.now q entities.now policies.now (λ s n ps. Responds (response_of (with_values s mapping.now) n ps) result) }
     {
         let request = Rc::new(alloc, q.clone()?)?;
         let plain = Evaluator::new(q, entities, self.table, self.limit);
@@ -158,7 +147,7 @@ pub(crate) fn respond<T: FunctionTable>(
     request: Rc<Request>,
     policies: &PolicySet,
 ) -> Result<PartialResponse, AllocError>
-    ensures { (fs : Functions) → request_of request.value ≡ asked_of evaluator.now → T.answers_as (table_in evaluator.now) fs.calls → IfOk result (λ r. response_seen r ≡ response_of (scope_in T.table fs evaluator.now no_bindings) (limit_of evaluator.now) (set_of policies.now).policies) }
+    ensures { ForAsked T.table T.answers_as request.value evaluator.now (λ s n. Responds (response_of s n (set_of policies.now).policies) result) }
 {
     ids_are_distinct();
     let gathering = gather(alloc, evaluator, policies)?;
@@ -171,7 +160,7 @@ fn gather<T: FunctionTable>(
     evaluator: &Evaluator<'_, T>,
     policies: &PolicySet,
 ) -> Result<Gathering, AllocError>
-    ensures { (fs : Functions) → T.answers_as (table_in evaluator.now) fs.calls → IfOk result (λ g. gathered (asked_of evaluator.now) g ≡ response_of (scope_in T.table fs evaluator.now no_bindings) (limit_of evaluator.now) (set_of policies.now).policies) }
+    ensures { ForEvaluator T.table T.answers_as evaluator.now (λ s n. Gathers (asked_of evaluator.now) (response_of s n (set_of policies.now).policies) result) }
 {
     let mut gathering = Gathering::new(alloc);
     for policy in policies.policies() {

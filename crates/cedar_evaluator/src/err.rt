@@ -16,7 +16,7 @@ pub enum ReauthorizationError {
     #[error("out of memory")]
     OutOfMemory,
 
-    /// An id stands twice among the policies of the response.
+    /// An id is repeated among the policies of the response.
     #[error(transparent)]
     PolicySetError(PolicySetError),
 

@@ -3,13 +3,13 @@
 ghost use Rattle.std.specs.Prelude.{◌≡◌, IfOk, OnOk};
 ghost use Rattle.cedar_expr_trees.specs.Trees.{tree_of};
 ghost use Rattle.cedar_store_policies.specs.Policies.{policy_of};
-ghost use Rattle.cedar_evaluator_model.specs.Response.{PartialRequest, noted, with_error as with_error_state};
+ghost use Rattle.cedar_evaluator_model.specs.Response.{PartialRequest, noted};
 ghost use Rattle.cedar_evaluator_errors.specs.Outcomes.{cause_of};
 ghost use Rattle.cedar_evaluator_requests.specs.Views.{request_of};
 ghost use Rattle.cedar_evaluator_requests.specs.Groups.{noted_seen, state_of};
 ghost use Rattle.cedar_evaluator.specs.Responses.{response_seen};
 ghost use Rattle.cedar_evaluator.specs.Verdicts.{left_seen, TellsStop};
-ghost use Rattle.cedar_evaluator.specs.Gathering.{gathered, each_kept, with_left, with_true, with_false, with_residual, with_error, nothing_gathered};
+ghost use Rattle.cedar_evaluator.specs.Gathering.{gathered, each_kept, with_left, true_noted, false_noted, residual_noted, error_noted, nothing_gathered};
 
 use crate::partial_response::PartialResponse;
 use crate::verdicts::Verdict;
@@ -112,7 +112,7 @@ impl Gathering {
 
     // Puts a satisfied policy in its group.
     fn put_true(&mut self, policy: &Policy) -> Result<(), AllocError>
-        ensures { (q : PartialRequest) → OnOk result (gathered q self.new ≡ with_true (gathered q self.old) (policy_of policy.now).effect (noted (policy_of policy.now))) }
+        ensures { (q : PartialRequest) → OnOk result (gathered q self.new ≡ true_noted (gathered q self.old) (policy_of policy.now)) }
     {
         let entry = entry_of(policy)?;
         match policy.effect() {
@@ -129,7 +129,7 @@ impl Gathering {
 
     // Puts a policy that is false, with whether it erred, in its group.
     fn put_false(&mut self, policy: &Policy, state: ErrorState) -> Result<(), AllocError>
-        ensures { (q : PartialRequest) → OnOk result (gathered q self.new ≡ with_false (gathered q self.old) (policy_of policy.now).effect (noted (policy_of policy.now), state_of state)) }
+        ensures { (q : PartialRequest) → OnOk result (gathered q self.new ≡ false_noted (gathered q self.old) (policy_of policy.now) (state_of state)) }
     {
         let (id, annotations) = entry_of(policy)?;
         match policy.effect() {
@@ -146,7 +146,7 @@ impl Gathering {
 
     // Puts a policy of which an expression is left, with the expression, in its group.
     fn put_residual(&mut self, policy: &Policy, left: Rc<Expr>) -> Result<(), AllocError>
-        ensures { (q : PartialRequest) → OnOk result (gathered q self.new ≡ with_residual (gathered q self.old) (policy_of policy.now).effect (noted (policy_of policy.now), tree_of left.value)) }
+        ensures { (q : PartialRequest) → OnOk result (gathered q self.new ≡ residual_noted (gathered q self.old) (policy_of policy.now) (tree_of left.value)) }
     {
         let (id, annotations) = entry_of(policy)?;
         match policy.effect() {
@@ -161,9 +161,9 @@ impl Gathering {
         }
     }
 
-    // Puts a policy that erred in the group of those that are false, and its error behind the errors.
+    // Puts a policy that erred in the group of those that are false, and appends its error to the errors.
     fn put_erred(&mut self, policy: &Policy, error: EvaluationError) -> Result<(), AllocError>
-        ensures { (q : PartialRequest) → OnOk result (gathered q self.new ≡ with_false (with_error (gathered q self.old) (record { id = (policy_of policy.now).id; cause = cause_of error })) (policy_of policy.now).effect (noted (policy_of policy.now), with_error_state)) }
+        ensures { (q : PartialRequest) → OnOk result (gathered q self.new ≡ error_noted (gathered q self.old) (policy_of policy.now) (cause_of error)) }
     {
         let id = policy.id().clone()?;
         self.errors

@@ -82,7 +82,7 @@ pub mod extensions {
     };
     pub use cedar_expr_functions::{ExtTable, Extensions};
 
-    /// Pairs of which no key stands twice.
+    /// Pairs of which no key is repeated.
     pub mod util {
         pub use cedar_expr_functions::util::collect_no_duplicates;
     }

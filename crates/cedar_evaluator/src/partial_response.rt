@@ -94,14 +94,11 @@ impl PartialResponse {
     ghost use Rattle.cedar_evaluator_requests.specs.Views.{decision_of, error_of, request_of, answer_of};
     ghost use Rattle.cedar_evaluator_requests.specs.Groups.{noted_seen, false_seen, residual_seen, each_once};
     ghost use Rattle.cedar_evaluator_model.specs.Reauthorize.{reauthorized};
-    ghost use Rattle.cedar_evaluator_errors.specs.Calls.{Functions};
-    ghost use Rattle.cedar_evaluator_reads.specs.Scopes.{values_in};
-    ghost use Rattle.cedar_evaluator.specs.Again.{IsAgain};
-    ghost use Rattle.cedar_evaluator.specs.Authorizers.{asks_table, keeps_limit};
+    ghost use Rattle.cedar_evaluator.specs.Answered.{StepsTo};
+    ghost use Rattle.cedar_evaluator.specs.Asked.{ForReauthorizing};
     ghost use Rattle.cedar_evaluator.specs.Decisions.{IsDecision};
     ghost use Rattle.cedar_evaluator.specs.Refusals.{Reauthorizes};
     ghost use Rattle.cedar_evaluator.specs.Responses.{response_seen};
-    ghost use Rattle.cedar_evaluator.specs.Scopes.{scope_for};
 
     /// The response of these groups, errors and request. An id that is repeated in a group keeps its place, with what stands last under
     /// it. Fails only when out of memory.
@@ -413,7 +410,7 @@ impl PartialResponse {
 
     /// The response to what is left of the policies once these values are known of unknowns, by their names: the parts of the request
     /// that are unknown take theirs, and so do the unknowns of its context and of what is left. In each completion that fits the values a
-    /// policy is satisfied by it exactly where it is by this one, where none met the limit. Refuses what `ReauthorizationError` tells.
+    /// policy is satisfied by it exactly where it is by this one, where none met the limit. Refuses what `ReauthorizationError` lists.
     pub fn reauthorize<T: FunctionTable>(
         &self,
         alloc: Global,
@@ -421,8 +418,8 @@ impl PartialResponse {
         auth: &Authorizer<'_, T>,
         es: &Entities,
     ) -> Result<PartialResponse, ReauthorizationError>
-        ensures response { (fs : Functions) → T.answers_as (asks_table auth.now) fs.calls → Reauthorizes (reauthorized (scope_for T.table (asks_table auth.now) (response_seen self.now).request es.now fs) (keeps_limit auth.now) (values_in mapping.now) (response_seen self.now)) result }
-        ensures laws { (fs : Functions) → T.answers_as (asks_table auth.now) fs.calls → IfOk result (λ r. IsAgain (record { scope = scope_for T.table (asks_table auth.now) (response_seen self.now).request es.now fs; depth = keeps_limit auth.now; values = values_in mapping.now }) (response_seen self.now) (response_seen r)) }
+        ensures response { ForReauthorizing T.table T.answers_as auth.now self.now es.now mapping.now (λ s n b r. Reauthorizes (reauthorized s n b r) result) }
+        ensures laws { ForReauthorizing T.table T.answers_as auth.now self.now es.now mapping.now (λ s n b r. StepsTo s n b r result) }
     {
         self.resumed(alloc, mapping, auth, es)
     }
@@ -435,7 +432,7 @@ impl PartialResponse {
         auth: &Authorizer<'_, T>,
         es: &Entities,
     ) -> Result<PartialResponse, ReauthorizationError>
-        ensures { (fs : Functions) → T.answers_as (asks_table auth.now) fs.calls → Reauthorizes (reauthorized (scope_for T.table (asks_table auth.now) (response_seen self.now).request es.now fs) (keeps_limit auth.now) (values_in mapping.now) (response_seen self.now)) result }
+        ensures { ForReauthorizing T.table T.answers_as auth.now self.now es.now mapping.now (λ s n b r. Reauthorizes (reauthorized s n b r) result) }
     {
         let left = self.all_residuals(alloc)?;
         let policies = PolicySet::try_from_iter(alloc, left)?;

@@ -3,14 +3,14 @@
 ghost use Rattle.std.specs.Prelude.{◌≡◌, Ok, Err, IfOk};
 ghost use Rattle.cedar_expr_model.specs.Tree.{Tree};
 ghost use Rattle.cedar_expr_trees.specs.Trees.{tree_of};
-ghost use Rattle.cedar_store_model.specs.Policy.{binding_of, no_bindings};
+ghost use Rattle.cedar_store_model.specs.Policy.{binding_of};
 ghost use Rattle.cedar_store_parts.specs.Parts.{bindings_of};
 ghost use Rattle.cedar_store_policies.specs.Policies.{policy_of};
 ghost use Rattle.cedar_evaluator_model.specs.Scope.{Left as ModelLeft};
 ghost use Rattle.cedar_evaluator_model.specs.Steps.{truth_left};
 ghost use Rattle.cedar_evaluator_model.specs.Response.{verdict as verdict_of, slots_bound};
-ghost use Rattle.cedar_evaluator_errors.specs.Calls.{Functions};
-ghost use Rattle.cedar_evaluator_core.specs.Evaluators.{table_in, limit_of, scope_in, IsVerdict};
+ghost use Rattle.cedar_evaluator_core.specs.Evaluators.{IsVerdict};
+ghost use Rattle.cedar_evaluator.specs.Asked.{ForEvaluator};
 ghost use Rattle.cedar_evaluator.specs.Verdicts.{with_residual, IsLeft};
 
 use crate::slots::bind_slots;
@@ -42,7 +42,7 @@ pub(crate) fn verdict_on<T: FunctionTable>(
     evaluator: &Evaluator<'_, T>,
     policy: &Policy,
 ) -> Result<Verdict, AllocError>
-    ensures { (fs : Functions) → T.answers_as (table_in evaluator.now) fs.calls → IfOk result (IsLeft (verdict_of (scope_in T.table fs evaluator.now no_bindings) (limit_of evaluator.now) (policy_of policy.now))) }
+    ensures { ForEvaluator T.table T.answers_as evaluator.now (λ s n. IfOk result (IsLeft (verdict_of s n (policy_of policy.now)))) }
 {
     match evaluator.partial_evaluate(alloc, policy) {
         Ok(left) => kept(alloc, left, policy.env()),

@@ -12,7 +12,7 @@ use Rattle.cedar_evaluator_model.specs.Steps.{mapped, called_left, made_members,
 use Rattle.cedar_evaluator_model.specs.Evaluation.{pieces_of, node, evaluated}
 use Rattle.cedar_evaluator_model.specs.Reauthorize.{restricted_left}
 use Rattle.cedar_evaluator_errors.specs.Calls.{called_by}
-use Rattle.cedar_gate_model.proofs.Reading.Values.{no_feature_split, feature_of, none_is}
+use Rattle.cedar_evaluator_model.proofs.Restricted.{no_feature_split, feature_of, none_is}
 
 module _ (s u : Scope) (tabled : s.table ≡ u.table) (answered : s.calls ≡ u.calls) (s_none : (n : Text) → s.values n ≡ None) (u_none : (n : Text) → u.values n ≡ None) where
   abbrev Same : (Tree → Left) → (Tree → Left) → Type 0

@@ -23,10 +23,8 @@ use Rattle.cedar_evaluator_model.specs.Steps.{Pieces, pieces, halted, record_lef
 use Rattle.cedar_evaluator_requests.specs.declared.context.Context as code
 use Rattle.cedar_evaluator_requests.specs.Views.{context_of}
 use Rattle.cedar_evaluator_restricted_exprs.specs.Read.{fields_read}
-use Rattle.cedar_gate_model.specs.Bundle.{Functions}
-use Rattle.cedar_gate_model.specs.ReadingValue.{with_functions}
-use Rattle.cedar_gate_model.proofs.Reading.Values.{Clean, evaluated_clean, none_is}
-use Rattle.cedar_gate_model.proofs.Runs.Contexts.{substituted_restricted}
+use Rattle.cedar_evaluator_model.specs.Functions.{Functions, with_functions}
+use Rattle.cedar_evaluator_model.proofs.Restricted.{Clean, evaluated_clean, none_is, substituted_restricted}
 use Rattle.cedar_evaluator_restricted_exprs.proofs.OfRecord.{both, of_record}
 use Rattle.cedar_evaluator_restricted_exprs.specs.Contexts.{IsOfRecord}
 use Rattle.cedar_evaluator_contexts.specs.Contexts.{Becomes, Evaluates, StoppedBy, CreatesOfExpr, CreatesOfPairs, Substitutes}

@@ -4,6 +4,7 @@ use Rattle.std.specs.Prelude.{◌≡◌, List, [], true, false, Some, None, IsSo
 use Rattle.cedar_expr_model.specs.Name.{Text}
 use Rattle.cedar_expr_model.specs.Made.{written_fields}
 use Rattle.cedar_expr_model.specs.Parts.{listed_fields}
+use Rattle.cedar_expr_model.specs.Records.{record_tree}
 use Rattle.cedar_expr_model.specs.Repeats.{repeated_name}
 use Rattle.cedar_expr_model.specs.Tree.{Tree}
 use Rattle.cedar_expr_trees.specs.Trees.{tree_of}
@@ -11,8 +12,8 @@ use Rattle.cedar_expr_trees.specs.Refusals.{repeated_key, repeated_context}
 use Rattle.cedar_expr_trees.specs.declared.err.ExpressionConstructionError.{ExpressionConstructionError}
 use Rattle.cedar_expr_trees.specs.declared.err.ExpressionConstructionError.TheVariants as construction
 use Rattle.cedar_evaluator_model.specs.Reauthorize as model
-use Rattle.cedar_evaluator_model.specs.Reauthorize.{context_from, makes_it, refuses, context_stops}
-use Rattle.cedar_evaluator_model.specs.Scope.{Context, closed, residual_fields, unknown_context, Left, value_left, residual, stopped, Stop}
+use Rattle.cedar_evaluator_model.specs.Reauthorize.{context_from, makes_it, refuses, context_stops, restricted_left}
+use Rattle.cedar_evaluator_model.specs.Scope.{Scope, Context, closed, residual_fields, unknown_context, Left, value_left, residual, stopped, Stop}
 use Rattle.cedar_evaluator_errors.specs.Outcomes.{is_memory, stop_or}
 use Rattle.cedar_evaluator_errors.specs.declared.err.EvaluationError.{EvaluationError}
 use Rattle.cedar_evaluator_errors.specs.declared.restricted.ContextCreationError.{ContextCreationError}
@@ -44,18 +45,26 @@ CreatesOfExpr seen t l (Err (NotARecord e)) = (fields_read t ≡ None) × (tree_
 CreatesOfExpr seen t l (Err (Evaluation e)) = IsSome (fields_read t) × StoppedBy l e
 CreatesOfExpr seen t l (Err (ExpressionConstruction e)) = ⊥
 
--- a name stands twice among the pairs
+-- This context is created of what is left of the expression in the scope.
+abbrev pub CreatesIn : {C : Type 0} → Scope → (C → Context) → Tree → Result C ContextCreationError → Type 0
+CreatesIn s seen t r = CreatesOfExpr seen t (restricted_left s t) r
+
+-- a name is repeated among the pairs
 abbrev pub RepeatsIn : List (Text × Tree) → ExpressionConstructionError → Type 0
 RepeatsIn ps construction.OutOfMemory = Unit {0}
 RepeatsIn ps (construction.DuplicateKey d) = (repeated_name ps ≡ Some (repeated_key d)) × (repeated_context d ≡ codes "in context")
 
--- No name stands twice, and the context is what is left of the record of the pairs; or a name does, or the evaluation stops so.
+-- No name is repeated, and the context is what is left of the record of the pairs; or a name is, or the evaluation stops so.
 abbrev pub CreatesOfPairs : {C : Type 0} → (C → Context) → List (Text × Tree) → Left → Result C ContextCreationError → Type 0
 CreatesOfPairs seen ps l (Ok c) = (repeated_name ps ≡ None) × (context_from l ≡ Some (seen c))
 CreatesOfPairs seen ps l (Err OutOfMemory) = Unit {0}
 CreatesOfPairs seen ps l (Err (NotARecord e)) = ⊥
 CreatesOfPairs seen ps l (Err (Evaluation e)) = (repeated_name ps ≡ None) × StoppedBy l e
 CreatesOfPairs seen ps l (Err (ExpressionConstruction e)) = RepeatsIn ps e
+
+-- This context is created of what is left of the record of the pairs in the scope.
+abbrev pub CreatesOfPairsIn : {C : Type 0} → Scope → (C → Context) → List (Text × Tree) → Result C ContextCreationError → Type 0
+CreatesOfPairsIn s seen ps r = CreatesOfPairs seen ps (restricted_left s (record_tree ps)) r
 
 -- The outcome is this context, or it is refused since the evaluation stops so. Out of memory says nothing.
 abbrev pub Substitutes : {C : Type 0} → (C → Context) → model.Outcome Context → Result C EvaluationError → Type 0

@@ -12,3 +12,7 @@ pub record HasFunctionsOf {T : Type 0} (table : T → (Name → List V → Calle
   pub answers : Name → List V → Called
   pub tabled : table t answers ≡ s.table
   pub answered : answers_as t s.calls
+
+-- This holds of each scope that has the functions of the table.
+abbrev pub ForScopes : {T : Type 0} → (T → (Name → List V → Called) → Table) → (T → (Name → List Made → MadeCalled) → Type 0) → T → (Scope → Type 0) → Type 0
+ForScopes table answers_as t p = (s : Scope) → HasFunctionsOf table answers_as t s → p s

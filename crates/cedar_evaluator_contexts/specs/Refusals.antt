@@ -1,15 +1,23 @@
 -- What the refusals of a request say that doesn't take values.
 -- Rule: reauthorizing (docs/RULES.md).
 use Rattle.std.specs.Prelude.{◌≡◌, Bool, true, false, codes, Result, Ok, Err, if◌then◌else◌}
+use Rattle.std.specs.HashMap.{HashMap}
 use Rattle.std.specs.Rc.{rc_str_bytes}
 use Rattle.std.specs.Str.{bytes_eq}
+use Rattle.std.specs.declared.alloc.Global.{Global}
+use Rattle.std.specs.declared.rc.RcStr.{RcStr}
 use Rattle.cedar_expr_model.specs.Name.{Text}
 use Rattle.cedar_expr_model.specs.Tree.{Var, principal, action, resource, context}
-use Rattle.cedar_evaluator_model.specs.Scope.{limit}
-use Rattle.cedar_evaluator_model.specs.Reauthorize.{Refusal, wrong_value, known_already, other_type, context_stops, Outcome, makes_it, refuses}
+use Rattle.cedar_expr_values.specs.declared.value.Value.{Value}
+use Rattle.cedar_expr_values.specs.declared.extension.ExtValue.{ExtValue}
+use Rattle.cedar_evaluator_model.specs.Scope.{Scope, limit}
+use Rattle.cedar_evaluator_model.specs.Reauthorize.{Refusal, wrong_value, known_already, other_type, context_stops, Outcome, makes_it, refuses, request_bound}
 use Rattle.cedar_evaluator_errors.specs.Outcomes.{is_memory, stop_or}
 use Rattle.cedar_evaluator_errors.specs.declared.err.EvaluationError.{EvaluationError}
 use Rattle.cedar_evaluator_errors.specs.declared.err.EvaluationError.TheVariants as evaluation
+use Rattle.cedar_evaluator_reads.specs.Scopes.{values_in}
+use Rattle.cedar_evaluator_requests.specs.Views.{request_of}
+use Rattle.cedar_evaluator_requests.specs.declared.request.Request.{Request}
 use Rattle.cedar_evaluator_contexts.specs.declared.err.ConcretizationError.{ConcretizationError}
 use Rattle.cedar_evaluator_contexts.specs.declared.err.ConcretizationError.TheVariants.{OutOfMemory, ValueError, VarConfictError, EntityTypeConfictError, ValueEval}
 
@@ -47,3 +55,7 @@ refusal_or other (ValueEval e) = stopped_or other e
 abbrev pub Takes : {A C : Type 0} → (C → A) → Outcome A → Result C ConcretizationError → Type 0
 Takes seen o (Ok c) = o ≡ makes_it (seen c)
 Takes seen o (Err e) = (other : Refusal) → is_request_memory e ≡ false → o ≡ refuses (refusal_or other e)
+
+-- The request takes these values in the scope.
+abbrev pub TakesValues : {S : Type 0} → Scope → HashMap (RcStr Global) (Value ExtValue) S → Request → Result Request ConcretizationError → Type 0
+TakesValues s m q r = Takes request_of (request_bound s (values_in m) (request_of q)) r

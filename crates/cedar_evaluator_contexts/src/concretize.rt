@@ -5,12 +5,11 @@ ghost use Rattle.cedar_expr_leaves.specs.Variables.{var_of};
 ghost use Rattle.cedar_expr_names.specs.Views.{uid_of};
 ghost use Rattle.cedar_expr_values.specs.Extensions.{extension_of};
 ghost use Rattle.cedar_expr_values.specs.Values.{made};
-ghost use Rattle.cedar_evaluator_model.specs.Reauthorize.{Refusal, entry_bound, entry_with, known_already, other_type, request_bound, wrong_value};
-ghost use Rattle.cedar_evaluator_model.specs.Scope.{Scope};
-ghost use Rattle.cedar_evaluator_contexts.specs.Functions.{HasFunctionsOf};
+ghost use Rattle.cedar_evaluator_model.specs.Reauthorize.{Refusal, entry_bound, entry_with, known_already, other_type, wrong_value};
+ghost use Rattle.cedar_evaluator_contexts.specs.Functions.{ForScopes};
 ghost use Rattle.cedar_evaluator_reads.specs.Scopes.{values_in};
-ghost use Rattle.cedar_evaluator_requests.specs.Views.{entry_of, name_of_var, request_of};
-ghost use Rattle.cedar_evaluator_contexts.specs.Refusals.{refusal_or, Takes};
+ghost use Rattle.cedar_evaluator_requests.specs.Views.{entry_of, name_of_var};
+ghost use Rattle.cedar_evaluator_contexts.specs.Refusals.{refusal_or, Takes, TakesValues};
 
 use crate::context_parts::{context_now, value_for};
 use crate::err::ConcretizationError;
@@ -26,14 +25,14 @@ use std::collections::HashMap;
 use std::rc::RcStr;
 
 /// The request with these values for what is unknown in it, by their names: its entries take theirs, and its context takes a value of its
-/// own, or has those of its unknowns put in and is evaluated by the functions of the table. Refuses what `ConcretizationError` tells.
+/// own, or has those of its unknowns put in and is evaluated by the functions of the table. Refuses what `ConcretizationError` lists.
 pub fn concretized<T: FunctionTable>(
     alloc: Global,
     table: &T,
     request: &Request,
     mapping: &HashMap<RcStr, V>,
 ) -> Result<Request, ConcretizationError>
-    ensures { (s : Scope) → HasFunctionsOf T.table T.answers_as table.now s → Takes request_of (request_bound s (values_in mapping.now) (request_of request.now)) result }
+    ensures { ForScopes T.table T.answers_as table.now (λ s. TakesValues s mapping.now request.now result) }
 {
     let principal = entry_for(alloc, Var::Principal, request.principal(), mapping)?;
     let action = entry_for(alloc, Var::Action, request.action(), mapping)?;

@@ -1,17 +1,16 @@
 //! Contexts with values for what is unknown in them.
 
-ghost use Rattle.std.specs.Prelude.{◌≡◌, option_map, IfOk, codes, Some};
+ghost use Rattle.std.specs.Prelude.{◌≡◌, option_map, IfOk, Some};
 ghost use Rattle.cedar_expr_model.specs.Made.{made_record};
 ghost use Rattle.cedar_expr_model.specs.Tree.{context};
 ghost use Rattle.cedar_expr_values.specs.Extensions.{extension_of};
 ghost use Rattle.cedar_expr_values.specs.Values.{made, fields_made};
-ghost use Rattle.cedar_evaluator_model.specs.Reauthorize.{Refusal, and_next, context_bound, context_substituted, known_already, wrong_value};
-ghost use Rattle.cedar_evaluator_model.specs.Scope.{Scope};
-ghost use Rattle.cedar_evaluator_contexts.specs.Functions.{HasFunctionsOf};
+ghost use Rattle.cedar_evaluator_model.specs.Reauthorize.{Refusal, context_bound, context_substituted, known_already, wrong_value};
+ghost use Rattle.cedar_evaluator_contexts.specs.Functions.{ForScopes};
 ghost use Rattle.cedar_evaluator_reads.specs.Scopes.{values_in};
 ghost use Rattle.cedar_evaluator_requests.specs.Views.{context_or_unknown, request_of};
 ghost use Rattle.cedar_evaluator_contexts.specs.Refusals.{refusal_or, Takes};
-ghost use Rattle.cedar_evaluator_contexts.specs.ContextParts.{fields_in_value};
+ghost use Rattle.cedar_evaluator_contexts.specs.ContextParts.{context_lent, fields_in_value, request_context_bound};
 
 use crate::ContextCalls;
 use crate::err::ConcretizationError;
@@ -30,7 +29,7 @@ pub(crate) fn context_now<T: FunctionTable>(
     request: &Request,
     mapping: &HashMap<RcStr, V>,
 ) -> Result<Option<Context>, ConcretizationError>
-    ensures { (s : Scope) → HasFunctionsOf T.table T.answers_as table.now s → Takes context_or_unknown (and_next (context_bound (request_of request.now).context (values_in mapping.now (codes "context"))) (context_substituted s (values_in mapping.now))) result }
+    ensures { ForScopes T.table T.answers_as table.now (λ s. Takes context_or_unknown (request_context_bound s (values_in mapping.now) (request_of request.now)) result) }
 {
     match context_with(alloc, request.context(), value_for(mapping, "context")) {
         Ok(context) => substituted(alloc, table, context, mapping),
@@ -45,7 +44,7 @@ fn substituted<T: FunctionTable>(
     context: Option<Context>,
     mapping: &HashMap<RcStr, V>,
 ) -> Result<Option<Context>, ConcretizationError>
-    ensures { (s : Scope) → HasFunctionsOf T.table T.answers_as table.now s → Takes context_or_unknown (context_substituted s (values_in mapping.now) (context_or_unknown context)) result }
+    ensures { ForScopes T.table T.answers_as table.now (λ s. Takes context_or_unknown (context_substituted s (values_in mapping.now) (context_or_unknown context)) result) }
 {
     match context {
         None => Ok(None),
@@ -69,7 +68,7 @@ fn context_with(
     context: Option<&Context>,
     value: Option<&V>,
 ) -> Result<Option<Context>, ConcretizationError>
-    ensures { Takes context_or_unknown (context_bound (context_or_unknown (option_map (λ c. c.now) context.entry)) (option_map (λ v. made extension_of v.now) value.entry)) result }
+    ensures { Takes context_or_unknown (context_bound (context_lent context.entry) (option_map (λ v. made extension_of v.now) value.entry)) result }
 {
     match value {
         None => Ok(copied(context)?),
@@ -93,7 +92,7 @@ fn context_given(
     context: Option<&Context>,
     value: &V,
 ) -> Result<Option<Context>, ConcretizationError>
-    ensures { Takes context_or_unknown (context_bound (context_or_unknown (option_map (λ c. c.now) context.entry)) (Some (made extension_of value.now))) result }
+    ensures { Takes context_or_unknown (context_bound (context_lent context.entry) (Some (made extension_of value.now))) result }
 {
     match record_in(value) {
         Some(fields) => context_as(alloc, context, fields, value),
@@ -108,7 +107,7 @@ fn context_as(
     fields: &Record<ExtValue>,
     value: &V,
 ) -> Result<Option<Context>, ConcretizationError>
-    ensures { Takes context_or_unknown (context_bound (context_or_unknown (option_map (λ c. c.now) context.entry)) (Some (made_record (fields_made extension_of fields.now)))) result }
+    ensures { Takes context_or_unknown (context_bound (context_lent context.entry) (Some (made_record (fields_made extension_of fields.now)))) result }
 {
     match context {
         None => Ok(Some(Context::Value(fields.clone()?))),

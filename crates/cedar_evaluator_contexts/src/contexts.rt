@@ -1,15 +1,14 @@
 //! The calls of contexts that stand on the evaluator.
 
-ghost use Rattle.std.specs.Prelude.{◌≡◌, map, IfOk};
-ghost use Rattle.cedar_expr_model.specs.Records.{record_tree};
+ghost use Rattle.std.specs.Prelude.{◌≡◌, IfOk};
 ghost use Rattle.cedar_evaluator_model.specs.Reauthorize.{restricted_left, context_substituted};
-ghost use Rattle.cedar_evaluator_model.specs.Scope.{Scope, Context as ModelContext};
+ghost use Rattle.cedar_evaluator_model.specs.Scope.{Context as ModelContext};
 ghost use Rattle.cedar_evaluator_reads.specs.Scopes.{values_in};
 ghost use Rattle.cedar_evaluator_requests.specs.Views.{context_of};
-ghost use Rattle.cedar_evaluator_restricted_exprs.specs.Views.{borrowed_of, restricted_pair};
-ghost use Rattle.cedar_evaluator_contexts.specs.Contexts.{CreatesOfExpr, CreatesOfPairs, Substitutes, pairs_of_context};
-ghost use Rattle.cedar_evaluator_contexts.specs.Functions.{HasFunctionsOf};
-ghost use Rattle.cedar_evaluator_contexts.specs.Views.{pairs_left};
+ghost use Rattle.cedar_evaluator_restricted_exprs.specs.Views.{borrowed_of};
+ghost use Rattle.cedar_evaluator_contexts.specs.Contexts.{CreatesIn, CreatesOfPairsIn, Substitutes, pairs_of_context};
+ghost use Rattle.cedar_evaluator_contexts.specs.Functions.{ForScopes};
+ghost use Rattle.cedar_evaluator_contexts.specs.Views.{pairs_in, pairs_left};
 
 use crate::evaluator::RestrictedEvaluator;
 use crate::into_iter::IntoIter;
@@ -39,19 +38,19 @@ pub trait ContextCalls: Sized {
         expr: BorrowedRestrictedExpr<'_>,
         table: &T,
     ) -> Result<Self, ContextCreationError>
-        ensures { (s : Scope) → HasFunctionsOf T.table T.answers_as table.now s → CreatesOfExpr context (borrowed_of expr.entry) (restricted_left s (borrowed_of expr.entry)) result };
+        ensures { ForScopes T.table T.answers_as table.now (λ s. CreatesIn s context (borrowed_of expr.entry) result) };
 
     /// The context that the record of these pairs evaluates to, by the functions of the table.
     ///
     /// # Errors
-    /// `ExpressionConstruction` with a name that stands twice, whatever stands under it; `Evaluation` where a field doesn't evaluate;
+    /// `ExpressionConstruction` with a name that is repeated, whatever is given for it; `Evaluation` where a field doesn't evaluate;
     /// `OutOfMemory`.
     fn from_pairs<T: FunctionTable>(
         alloc: Global,
         pairs: Vec<(RcStr, RestrictedExpr)>,
         table: &T,
     ) -> Result<Self, ContextCreationError>
-        ensures { (s : Scope) → HasFunctionsOf T.table T.answers_as table.now s → CreatesOfPairs context (map restricted_pair pairs.items) (restricted_left s (record_tree (map restricted_pair pairs.items))) result };
+        ensures { ForScopes T.table T.answers_as table.now (λ s. CreatesOfPairsIn s context (pairs_in pairs.items) result) };
 
     /// The context with the values of the mapping in the place of its unknowns, evaluated by the functions of the table. Annotations
     /// aren't asked. A context of values stays as it is. Errors: those of the evaluation.
@@ -61,7 +60,7 @@ pub trait ContextCalls: Sized {
         mapping: &HashMap<RcStr, V>,
         table: &T,
     ) -> Result<Self, EvaluationError>
-        ensures { (s : Scope) → HasFunctionsOf T.table T.answers_as table.now s → Substitutes context (context_substituted s (values_in mapping.now) (context self)) result };
+        ensures { ForScopes T.table T.answers_as table.now (λ s. Substitutes context (context_substituted s (values_in mapping.now) (context self)) result) };
 
     /// Goes over the names of the fields, in their order, with what stands under each. All pairs are made at the start.
     fn into_iter(self, alloc: Global) -> Result<IntoIter, AllocError>
@@ -147,7 +146,7 @@ fn evaluated<T: FunctionTable>(
     expr: BorrowedRestrictedExpr<'_>,
     table: &T,
 ) -> Result<Context, EvaluationError>
-    ensures { (s : Scope) → HasFunctionsOf T.table T.answers_as table.now s → Evaluates (borrowed_of expr.entry) (restricted_left s (borrowed_of expr.entry)) result }
+    ensures { ForScopes T.table T.answers_as table.now (λ s. Evaluates (borrowed_of expr.entry) (restricted_left s (borrowed_of expr.entry)) result) }
 {
     match RestrictedEvaluator::new(table).partial_interpret(alloc, expr) {
         Ok(left) => context_of_left(alloc, left),

@@ -4,9 +4,8 @@ ghost use Rattle.std.specs.Prelude.{◌≡◌};
 ghost use Rattle.cedar_evaluator_core.specs.Evaluators.{IsValueOf};
 ghost use Rattle.cedar_evaluator_errors.specs.Outcomes.{Leaves};
 ghost use Rattle.cedar_evaluator_model.specs.Reauthorize.{restricted_left};
-ghost use Rattle.cedar_evaluator_model.specs.Scope.{Scope};
 ghost use Rattle.cedar_evaluator_restricted_exprs.specs.Views.{borrowed_of};
-ghost use Rattle.cedar_evaluator_contexts.specs.Functions.{HasFunctionsOf};
+ghost use Rattle.cedar_evaluator_contexts.specs.Functions.{ForScopes};
 ghost use Rattle.cedar_evaluator_contexts.specs.Views.{table_asked};
 
 use cedar_evaluator_core::Evaluator;
@@ -46,7 +45,7 @@ impl<'a, T: FunctionTable> RestrictedEvaluator<'a, T> {
         alloc: Global,
         e: BorrowedRestrictedExpr<'_>,
     ) -> Result<Left, EvaluationError>
-        ensures { (s : Scope) → HasFunctionsOf T.table T.answers_as (table_asked self.now) s → Leaves (restricted_left s (borrowed_of e.entry)) result }
+        ensures { ForScopes T.table T.answers_as (table_asked self.now) (λ s. Leaves (restricted_left s (borrowed_of e.entry)) result) }
     {
         let request = Request::new_unchecked(
             EntityUIDEntry::unknown(),
@@ -66,7 +65,7 @@ impl<'a, T: FunctionTable> RestrictedEvaluator<'a, T> {
         alloc: Global,
         e: BorrowedRestrictedExpr<'_>,
     ) -> Result<V, EvaluationError>
-        ensures { (s : Scope) → HasFunctionsOf T.table T.answers_as (table_asked self.now) s → IsValueOf (restricted_left s (borrowed_of e.entry)) result }
+        ensures { ForScopes T.table T.answers_as (table_asked self.now) (λ s. IsValueOf (restricted_left s (borrowed_of e.entry)) result) }
     {
         match self.partial_interpret(alloc, e) {
             Ok(left) => value_of(left),

@@ -54,3 +54,7 @@ IsOutcomeIn (val v) (Ok (partial.Residual e)) = ⊥
 IsOutcomeIn (val v) (Err e) = is_memory e ≡ true
 IsOutcomeIn (err f) (Ok p) = ⊥
 IsOutcomeIn (err f) (Err e) = (other : Stop) → is_memory e ≡ false → fault f ≡ stop_or other e
+
+-- What the expression means, of what is known in the scope, is answered.
+abbrev pub AnswersMeaning : Scope → Tree → Result (PartialValue ExtValue) EvaluationError → Type 0
+AnswersMeaning s t r = (o : Res V) → Means (known_world s) t o → IsOutcomeIn o r

@@ -1,6 +1,6 @@
 -- What an evaluator knows as a scope of the model, and what it answers.
 -- Rule: partial evaluation; the recursion limit (docs/RULES.md).
-use Rattle.std.specs.Prelude.{◌≡◌, ◌≤◌, ℕ, List, Bool, true, false, Option, Result, Ok, Err}
+use Rattle.std.specs.Prelude.{◌≡◌, ◌≤◌, ℕ, List, Bool, true, false, Option, Result, Ok, Err, IfErr}
 use Rattle.either.specs.declared.Either.{Either}
 use Rattle.either.specs.declared.Either.TheVariants as either
 use Rattle.cedar_expr_model.specs.Name.{Text, Name}
@@ -15,10 +15,17 @@ use Rattle.cedar_expr_values.specs.declared.extension.ExtValue.{ExtValue}
 use Rattle.cedar_expr_trees.specs.Trees.{tree_of}
 use Rattle.cedar_expr_trees.specs.declared.expr.Expr.{Expr}
 use Rattle.cedar_store_model.specs.Outcome.{Res, val, err}
-use Rattle.cedar_store_model.specs.Policy.{SlotBindings, binding_of}
+use Rattle.cedar_store_model.specs.Meaning.{Means}
+use Rattle.cedar_store_model.specs.Policy.{SlotBindings, binding_of, condition}
+use Rattle.cedar_store_parts.specs.Parts.{bindings_of}
+use Rattle.cedar_store_parts.specs.declared.slot_env.SlotEnv.{SlotEnv}
+use Rattle.cedar_store_policies.specs.Policies.{policy_of}
+use Rattle.cedar_store_policies.specs.declared.policy.Policy.{Policy}
 use Rattle.cedar_store_entities.specs.declared.entities.Entities.{Entities}
-use Rattle.cedar_evaluator_model.specs.Scope.{Scope, Stop, fault, Left, value_left, residual, stopped}
-use Rattle.cedar_evaluator_model.specs.Steps.{truth_left}
+use Rattle.cedar_evaluator_model.specs.Scope.{Scope, Stop, fault, Left, value_left, residual, stopped, MadeCalled}
+use Rattle.cedar_evaluator_model.specs.Steps.{truth_left, on_value, truth_wanted}
+use Rattle.cedar_evaluator_model.specs.Evaluation.{evaluated}
+use Rattle.cedar_evaluator_model.specs.Known.{known_world}
 use Rattle.cedar_evaluator_model.specs.Response.{PartialRequest}
 use Rattle.cedar_evaluator_model.specs.OfLaws.Calls.{Agrees}
 use Rattle.cedar_evaluator_model.specs.OfLaws.Whole.{NothingUnknown, AllBoundTo}
@@ -29,6 +36,7 @@ use Rattle.cedar_evaluator_requests.specs.Views.{request_of}
 use Rattle.cedar_evaluator_errors.specs.Calls.{Functions}
 use Rattle.cedar_evaluator_reads.specs.Scopes.{values_bound, store_of}
 use Rattle.cedar_evaluator_core.specs.declared.evaluator.Evaluator.{Evaluator}
+use Rattle.cedar_expr_partial.specs.declared.partial_value.PartialValue.{PartialValue}
 
 -- the request, the values of unknowns, the entities, the table and the limit
 abbrev pub asked_of : {T : Type 0} → Evaluator T → PartialRequest
@@ -61,6 +69,18 @@ scope_in table fs e b =
       store = store_of (entities_in e);
     }
 
+-- However the table's functions answer, this holds of the scope with these slots, the limit and the expression.
+abbrev pub ForEvaluation : {T : Type 0} → (T → (Name → List V → Called) → Table) → (T → (Name → List Made → MadeCalled) → Type 0) → Evaluator T → SlotEnv → Expr Unit → (Scope → ℕ → Tree → Type 0) → Type 0
+ForEvaluation table answers_as e slots x p = (fs : Functions) → answers_as (table_in e) fs.calls → p (scope_in table fs e (bindings_of slots)) (limit_of e) (tree_of x)
+
+-- However the table's functions answer, this holds of the scope with the policy's slots, the limit and the policy's condition.
+abbrev pub ForCondition : {T : Type 0} → (T → (Name → List V → Called) → Table) → (T → (Name → List Made → MadeCalled) → Type 0) → Evaluator T → Policy → (Scope → ℕ → Tree → Type 0) → Type 0
+ForCondition table answers_as e x p = (fs : Functions) → answers_as (table_in e) fs.calls → p (scope_in table fs e (policy_of x).bindings) (limit_of e) (condition (policy_of x))
+
+-- what is left of an expression of which a truth value is wanted
+abbrev pub truth_evaluated : Scope → ℕ → Tree → Left
+truth_evaluated s n t = on_value (evaluated s n t) truth_wanted residual
+
 -- why no value is left: it stopped, or a residual is left
 abbrev pub left_by : Stop → EvaluationError → Left
 left_by other (NonValue e) = residual (tree_of e.expr)
@@ -89,6 +109,10 @@ IsMeaningOf (val v) (Err e) = is_memory e ≡ true
 IsMeaningOf (err f) (Ok w) = ⊥
 IsMeaningOf (err f) (Err e) = (other : Stop) → is_memory e ≡ false → fault f ≡ stop_or other e
 
+-- The outcome is what the expression means, of what is known in the scope.
+abbrev pub IsMeaningIn : Scope → Tree → Result (Value ExtValue) EvaluationError → Type 0
+IsMeaningIn s t r = (o : Res V) → Means (known_world s) t o → IsMeaningOf o r
+
 -- Nothing is unknown in the scope but entities that aren't loaded, the calls answer as the table does, and the expression is within the
 -- limit, with values for its unknowns.
 pub record IsClosed (s : Scope) (n : ℕ) (t : Tree) : Type 0 where
@@ -100,3 +124,7 @@ pub record IsClosed (s : Scope) (n : ℕ) (t : Tree) : Type 0 where
 abbrev pub is_limit_error : EvaluationError → Bool
 is_limit_error (RecursionLimit e) = true
 is_limit_error e = false
+
+-- An error isn't that of the limit on the depth.
+abbrev pub MeetsNoLimit : Result (PartialValue ExtValue) EvaluationError → Type 0
+MeetsNoLimit r = IfErr r (λ x. is_limit_error x ≡ false)

@@ -1,6 +1,6 @@
 //! What follows the parts of `if`, `and` and `or`, and the place of what is left. The walk hands on what a part left, or why its evaluation
-//! stopped, so that values are read and errors handed on outside of its cycle of calls. Such a result is large: what can be told by a look
-//! at it is told so, and it is taken apart only where it must be.
+//! stopped, so that values are read and errors handed on outside of its cycle of calls. Such a result is large: what can be seen by a look
+//! at it is seen so, and it is taken apart only where it must be.
 
 ghost use Rattle.std.specs.Prelude.{◌≡◌, Bool, true, false, Some};
 ghost use Rattle.cedar_expr_model.specs.Builder.{conjunction, disjunction};

@@ -1,16 +1,14 @@
 //! Calls whose arguments are evaluated already.
 
 ghost use Rattle.std.specs.Prelude.{map};
-ghost use Rattle.cedar_expr_model.specs.Builder.{trees};
-ghost use Rattle.cedar_expr_model.specs.Tree.{call};
 ghost use Rattle.cedar_expr_names.specs.Views.{plain_name_of};
 ghost use Rattle.cedar_expr_values.specs.Extensions.{extension_of};
 ghost use Rattle.cedar_expr_values.specs.Values.{made};
-ghost use Rattle.cedar_evaluator_model.specs.Steps.{pieces, from_pieces, called_left};
-ghost use Rattle.cedar_evaluator_errors.specs.Outcomes.{Leaves};
-ghost use Rattle.cedar_evaluator_errors.specs.Calls.{Functions};
+ghost use Rattle.cedar_evaluator_model.specs.Steps.{called_left};
 ghost use Rattle.cedar_evaluator_operators.specs.Scopes.{scope_of};
+ghost use Rattle.cedar_evaluator_requests.specs.Parts.{call_of_parts};
 ghost use Rattle.cedar_evaluator_core.specs.Gathered.{parts_of};
+ghost use Rattle.cedar_evaluator_core.specs.Walked.{LeavesIn};
 
 use crate::parts::{Parted, part_up};
 use cedar_evaluator_errors::EvaluationError;
@@ -28,7 +26,7 @@ pub fn call_left<T: FunctionTable>(
     name: &Name,
     parts: Vec<Left>,
 ) -> Result<Left, EvaluationError>
-    ensures { (fs : Functions) → T.answers_as known.now.table.now fs.calls → Leaves (from_pieces (called_left (scope_of T.table fs known.now) (plain_name_of name.now)) (λ us. call (plain_name_of name.now) (trees us)) (pieces (parts_of parts.items))) result }
+    ensures { LeavesIn T.table T.answers_as known.now (λ s. call_of_parts s (plain_name_of name.now) (parts_of parts.items)) result }
 {
     match part_up(alloc, parts)? {
         Parted::Values(values) => answer(alloc, known, name, values),
@@ -47,7 +45,7 @@ fn answer<T: FunctionTable>(
     name: &Name,
     values: Vec<V>,
 ) -> Result<Left, EvaluationError>
-    ensures { (fs : Functions) → T.answers_as known.now.table.now fs.calls → Leaves (called_left (scope_of T.table fs known.now) (plain_name_of name.now) (map (made extension_of) values.items)) result }
+    ensures { LeavesIn T.table T.answers_as known.now (λ s. called_left s (plain_name_of name.now) (map (made extension_of) values.items)) result }
 {
     known.table.call(alloc, name, values.as_slice())
 }

@@ -1,25 +1,14 @@
 //! The evaluator of a request.
 
-ghost use Rattle.std.specs.Prelude.{◌≡◌, false, None, IfErr};
-ghost use Rattle.cedar_expr_trees.specs.Trees.{tree_of};
-ghost use Rattle.cedar_store_model.specs.Meaning.{Means};
-ghost use Rattle.cedar_store_model.specs.Outcome.{Res};
-ghost use Rattle.cedar_store_model.specs.Policy.{condition};
-ghost use Rattle.cedar_expr_model.specs.Value.{V as ModelValue};
-ghost use Rattle.cedar_store_parts.specs.Parts.{bindings_of};
-ghost use Rattle.cedar_store_policies.specs.Policies.{policy_of};
-ghost use Rattle.cedar_evaluator_model.specs.Scope.{residual};
-ghost use Rattle.cedar_evaluator_model.specs.Known.{known_world};
+ghost use Rattle.std.specs.Prelude.{◌≡◌, None};
 ghost use Rattle.cedar_evaluator_model.specs.OfLaws.Whole.{AllLoaded};
-ghost use Rattle.cedar_evaluator_model.specs.Steps.{on_value, truth_wanted};
 ghost use Rattle.cedar_evaluator_model.specs.Evaluation.{evaluated};
 ghost use Rattle.cedar_evaluator_errors.specs.Outcomes.{Leaves};
 ghost use Rattle.cedar_evaluator_requests.specs.Views.{request_of};
-ghost use Rattle.cedar_evaluator_errors.specs.Calls.{Functions};
 ghost use Rattle.cedar_evaluator_reads.specs.Scopes.{values_in};
 ghost use Rattle.cedar_store_model.specs.World.{World};
-ghost use Rattle.cedar_evaluator_core.specs.Completed.{IsCompletion, StandsIn, IsWithin, IsOutcomeIn};
-ghost use Rattle.cedar_evaluator_core.specs.Evaluators.{asked_of, bound_in, entities_in, table_in, limit_of, scope_in, IsValueOf, IsTruthOf, IsVerdict, IsMeaningOf, IsClosed, is_limit_error};
+ghost use Rattle.cedar_evaluator_core.specs.Completed.{IsCompletion, StandsIn, IsWithin, AnswersMeaning};
+ghost use Rattle.cedar_evaluator_core.specs.Evaluators.{asked_of, bound_in, entities_in, table_in, limit_of, ForEvaluation, ForCondition, truth_evaluated, IsValueOf, IsTruthOf, IsVerdict, IsMeaningIn, IsClosed, MeetsNoLimit};
 
 use crate::outcomes::{truth_of, value_of, verdict_of};
 use crate::walk::walk;
@@ -107,10 +96,10 @@ impl<'a, T: FunctionTable> Evaluator<'a, T> {
         e: &Expr,
         slots: &'a SlotEnv,
     ) -> Result<Left, EvaluationError>
-        ensures left { (fs : Functions) → T.answers_as (table_in self.now) fs.calls → Leaves (evaluated (scope_in T.table fs self.now (bindings_of slots.now)) (limit_of self.now) (tree_of e.now)) result }
-        ensures no_limit { (fs : Functions) → T.answers_as (table_in self.now) fs.calls → IsClosed (scope_in T.table fs self.now (bindings_of slots.now)) (limit_of self.now) (tree_of e.now) → IfErr result (λ x. is_limit_error x ≡ false) }
-        ensures stands { (fs : Functions) → T.answers_as (table_in self.now) fs.calls → (w : World) → IsCompletion w (scope_in T.table fs self.now (bindings_of slots.now)) (tree_of e.now) → StandsIn w (tree_of e.now) result }
-        ensures owed { (fs : Functions) → T.answers_as (table_in self.now) fs.calls → IsWithin (scope_in T.table fs self.now (bindings_of slots.now)) (limit_of self.now) (tree_of e.now) → (r : Res ModelValue) → Means (known_world (scope_in T.table fs self.now (bindings_of slots.now))) (tree_of e.now) r → IsOutcomeIn r result }
+        ensures left { ForEvaluation T.table T.answers_as self.now slots.now e.now (λ s n t. Leaves (evaluated s n t) result) }
+        ensures no_limit { ForEvaluation T.table T.answers_as self.now slots.now e.now (λ s n t. IsClosed s n t → MeetsNoLimit result) }
+        ensures stands { ForEvaluation T.table T.answers_as self.now slots.now e.now (λ s n t. (w : World) → IsCompletion w s t → StandsIn w t result) }
+        ensures owed { ForEvaluation T.table T.answers_as self.now slots.now e.now (λ s n t. IsWithin s n t → AnswersMeaning s t result) }
     {
         let known = Knowledge {
             request: &self.request,
@@ -130,15 +119,15 @@ impl<'a, T: FunctionTable> Evaluator<'a, T> {
         e: &Expr,
         slots: &'a SlotEnv,
     ) -> Result<V, EvaluationError>
-        ensures value { (fs : Functions) → T.answers_as (table_in self.now) fs.calls → IsValueOf (evaluated (scope_in T.table fs self.now (bindings_of slots.now)) (limit_of self.now) (tree_of e.now)) result }
-        ensures meaning { (fs : Functions) → T.answers_as (table_in self.now) fs.calls → IsClosed (scope_in T.table fs self.now (bindings_of slots.now)) (limit_of self.now) (tree_of e.now) → AllLoaded (scope_in T.table fs self.now (bindings_of slots.now)) → (r : Res ModelValue) → Means (known_world (scope_in T.table fs self.now (bindings_of slots.now))) (tree_of e.now) r → IsMeaningOf r result }
+        ensures value { ForEvaluation T.table T.answers_as self.now slots.now e.now (λ s n t. IsValueOf (evaluated s n t) result) }
+        ensures meaning { ForEvaluation T.table T.answers_as self.now slots.now e.now (λ s n t. IsClosed s n t → AllLoaded s → IsMeaningIn s t result) }
     {
         self.value(alloc, e, slots)
     }
 
     // The value of the expression.
     fn value(&'a self, alloc: Global, e: &Expr, slots: &'a SlotEnv) -> Result<V, EvaluationError>
-        ensures { (fs : Functions) → T.answers_as (table_in self.now) fs.calls → IsValueOf (evaluated (scope_in T.table fs self.now (bindings_of slots.now)) (limit_of self.now) (tree_of e.now)) result }
+        ensures { ForEvaluation T.table T.answers_as self.now slots.now e.now (λ s n t. IsValueOf (evaluated s n t) result) }
     {
         match self.partial_interpret(alloc, e, slots) {
             Ok(left) => value_of(left),
@@ -153,7 +142,7 @@ impl<'a, T: FunctionTable> Evaluator<'a, T> {
         alloc: Global,
         policy: &'a Policy,
     ) -> Result<Either<bool, Expr>, EvaluationError>
-        ensures { (fs : Functions) → T.answers_as (table_in self.now) fs.calls → IsVerdict (on_value (evaluated (scope_in T.table fs self.now (policy_of policy.now).bindings) (limit_of self.now) (condition (policy_of policy.now))) truth_wanted residual) result }
+        ensures { ForCondition T.table T.answers_as self.now policy.now (λ s n t. IsVerdict (truth_evaluated s n t) result) }
     {
         self.verdict(alloc, policy.condition(), policy.env())
     }
@@ -165,7 +154,7 @@ impl<'a, T: FunctionTable> Evaluator<'a, T> {
         e: &Expr,
         slots: &'a SlotEnv,
     ) -> Result<Either<bool, Expr>, EvaluationError>
-        ensures { (fs : Functions) → T.answers_as (table_in self.now) fs.calls → IsVerdict (on_value (evaluated (scope_in T.table fs self.now (bindings_of slots.now)) (limit_of self.now) (tree_of e.now)) truth_wanted residual) result }
+        ensures { ForEvaluation T.table T.answers_as self.now slots.now e.now (λ s n t. IsVerdict (truth_evaluated s n t) result) }
     {
         match self.partial_interpret(alloc, e, slots) {
             Ok(left) => verdict_of(alloc, left),
@@ -175,14 +164,14 @@ impl<'a, T: FunctionTable> Evaluator<'a, T> {
 
     /// Whether the policy's condition is true. Errors: those of `interpret`, and `TypeError` where the condition is no truth value.
     pub fn evaluate(&'a self, alloc: Global, policy: &'a Policy) -> Result<bool, EvaluationError>
-        ensures { (fs : Functions) → T.answers_as (table_in self.now) fs.calls → IsTruthOf (on_value (evaluated (scope_in T.table fs self.now (policy_of policy.now).bindings) (limit_of self.now) (condition (policy_of policy.now))) truth_wanted residual) result }
+        ensures { ForCondition T.table T.answers_as self.now policy.now (λ s n t. IsTruthOf (truth_evaluated s n t) result) }
     {
         self.truth(alloc, policy.condition(), policy.env())
     }
 
     // Whether the expression is true.
     fn truth(&'a self, alloc: Global, e: &Expr, slots: &'a SlotEnv) -> Result<bool, EvaluationError>
-        ensures { (fs : Functions) → T.answers_as (table_in self.now) fs.calls → IsTruthOf (on_value (evaluated (scope_in T.table fs self.now (bindings_of slots.now)) (limit_of self.now) (tree_of e.now)) truth_wanted residual) result }
+        ensures { ForEvaluation T.table T.answers_as self.now slots.now e.now (λ s n t. IsTruthOf (truth_evaluated s n t) result) }
     {
         match self.verdict(alloc, e, slots) {
             Ok(verdict) => truth_of(verdict),

@@ -2,15 +2,14 @@
 
 ghost use Rattle.std.specs.Prelude.{◌≡◌, map, IfOk};
 ghost use Rattle.std.specs.Vec.Iter.{into_iter_items};
-ghost use Rattle.cedar_expr_model.specs.Builder.{trees};
 ghost use Rattle.cedar_expr_model.specs.Made.{made_set};
-ghost use Rattle.cedar_expr_model.specs.Tree.{set_literal};
 ghost use Rattle.cedar_expr_values.specs.Extensions.{extension_of};
 ghost use Rattle.cedar_expr_values.specs.Values.{made};
 ghost use Rattle.cedar_evaluator_model.specs.Scope.{value_left};
-ghost use Rattle.cedar_evaluator_model.specs.Steps.{pieces, from_pieces, made_members};
+ghost use Rattle.cedar_evaluator_model.specs.Steps.{pieces, made_members};
 ghost use Rattle.cedar_evaluator_errors.specs.Outcomes.{Leaves};
-ghost use Rattle.cedar_evaluator_core.specs.Gathered.{parts_of, IsParted};
+ghost use Rattle.cedar_evaluator_requests.specs.Parts.{set_of_parts};
+ghost use Rattle.cedar_evaluator_core.specs.Gathered.{parts_of, names_in, IsParted};
 
 use crate::records::{record_expr, record_value};
 use cedar_evaluator_errors::EvaluationError;
@@ -56,7 +55,7 @@ pub fn part_up(alloc: Global, parts: Vec<Left>) -> Result<Parted, AllocError>
 
 /// The set of these: a value where each is one.
 pub fn set_left(alloc: Global, parts: Vec<Left>) -> Result<Left, EvaluationError>
-    ensures { Leaves (from_pieces (λ ms. value_left (made_set (made_members ms))) (λ us. set_literal (trees us)) (pieces (parts_of parts.items))) result }
+    ensures { Leaves (set_of_parts (parts_of parts.items)) result }
 {
     match part_up(alloc, parts)? {
         Parted::Values(values) => set_value(alloc, values),
@@ -72,10 +71,6 @@ fn set_value(alloc: Global, values: Vec<V>) -> Result<Left, EvaluationError>
     Ok(PartialValue::Value(Value::set(alloc, values, None)?))
 }
 
-ghost use Rattle.std.specs.Map.{keys_of};
-ghost use Rattle.cedar_expr_model.specs.Builder.{tree_fields};
-ghost use Rattle.cedar_expr_model.specs.Parts.{listed_fields};
-ghost use Rattle.cedar_expr_trees.specs.Trees.{named, field_trees};
 ghost use Rattle.cedar_evaluator_model.specs.Steps.{record_left};
 
 /// The record of these, under the names of these fields: a value where each is one.
@@ -84,7 +79,7 @@ pub fn record_left(
     fields: &BTreeMap<RcStr, Expr>,
     parts: Vec<Left>,
 ) -> Result<Left, EvaluationError>
-    ensures { Leaves (record_left (keys_of (listed_fields (tree_fields (named (field_trees fields.now.entries))))) (pieces (parts_of parts.items))) result }
+    ensures { Leaves (record_left (names_in fields.now.entries) (pieces (parts_of parts.items))) result }
 {
     match part_up(alloc, parts)? {
         Parted::Values(values) => record_value(alloc, fields, values),

@@ -1,21 +1,18 @@
 //! What is left of an expression whose parts are evaluated already.
 
 ghost use Rattle.std.specs.Prelude.{◌≡◌, true, false, map};
-ghost use Rattle.std.specs.Option.{option_map_or};
 ghost use Rattle.std.specs.Rc.{rc_str_bytes};
 ghost use Rattle.cedar_expr_leaves.specs.Patterns.{pattern_of};
 ghost use Rattle.cedar_expr_leaves.specs.Operators.{unary_op_of};
-ghost use Rattle.cedar_expr_model.specs.Name.{name_eq};
 ghost use Rattle.cedar_expr_model.specs.Builder.{conjunction, disjunction};
-ghost use Rattle.cedar_expr_model.specs.Made.{bare};
-ghost use Rattle.cedar_expr_model.specs.Tree.{choice, unary, like as like_tree, is_type};
+ghost use Rattle.cedar_expr_model.specs.Tree.{choice, unary};
 ghost use Rattle.cedar_expr_names.specs.Views.{type_name_of};
 ghost use Rattle.cedar_expr_trees.specs.Trees.{tree_of};
-ghost use Rattle.cedar_store_model.specs.Operators.{applied as model_applied, like_pattern, of_type};
 ghost use Rattle.cedar_evaluator_model.specs.Scope.{Left as ModelLeft, value_left, residual};
-ghost use Rattle.cedar_evaluator_model.specs.Steps.{on_value, best, left_of, truth_left, kind_of_unknown};
+ghost use Rattle.cedar_evaluator_model.specs.Steps.{best};
 ghost use Rattle.cedar_evaluator_model.specs.Evaluation.{right_left};
 ghost use Rattle.cedar_evaluator_errors.specs.Outcomes.{Leaves, IsTree, left_seen};
+ghost use Rattle.cedar_evaluator_core.specs.Operands.{unary_left, like_left, is_left};
 
 use cedar_evaluator_errors::EvaluationError;
 use cedar_evaluator_operators::unary::{as_truth, is_of_type, like, unary_app};
@@ -89,7 +86,7 @@ pub fn unary_left(
     arg: Left,
     loc: Option<Loc>,
 ) -> Result<Left, EvaluationError>
-    ensures { Leaves (on_value (left_seen arg) (λ m. left_of (model_applied (unary_op_of op) (bare m))) (λ r. residual (unary (unary_op_of op) r))) result }
+    ensures { Leaves (unary_left (unary_op_of op) (left_seen arg)) result }
 {
     match arg {
         PartialValue::Value(v) => Ok(PartialValue::Value(unary_app(alloc, op, &v, loc)?)),
@@ -99,7 +96,7 @@ pub fn unary_left(
 
 /// Whether it matches a pattern.
 pub fn like_left(alloc: Global, arg: Left, pattern: &Pattern) -> Result<Left, EvaluationError>
-    ensures { Leaves (on_value (left_seen arg) (λ m. left_of (like_pattern (pattern_of pattern.now) (bare m))) (λ r. residual (like_tree r (pattern_of pattern.now)))) result }
+    ensures { Leaves (like_left (pattern_of pattern.now) (left_seen arg)) result }
 {
     match arg {
         PartialValue::Value(v) => Ok(PartialValue::Value(like(alloc, pattern, &v)?)),
@@ -111,7 +108,7 @@ pub fn like_left(alloc: Global, arg: Left, pattern: &Pattern) -> Result<Left, Ev
 
 /// Whether it is of an entity type; an unknown annotated with an entity type is decided by that type.
 pub fn is_left(alloc: Global, arg: Left, kind: &EntityType) -> Result<Left, EvaluationError>
-    ensures { Leaves (on_value (left_seen arg) (λ m. left_of (of_type (type_name_of kind.now) (bare m))) (λ r. option_map_or (λ k. truth_left (name_eq k (type_name_of kind.now))) (kind_of_unknown r) (residual (is_type r (type_name_of kind.now))))) result }
+    ensures { Leaves (is_left (type_name_of kind.now) (left_seen arg)) result }
 {
     match arg {
         PartialValue::Value(v) => Ok(PartialValue::Value(is_of_type(alloc, kind, &v)?)),
@@ -158,7 +155,7 @@ pub fn expr_of(alloc: Global, left: Left) -> Result<Expr, EvaluationError>
     }
 }
 
-/// An expression of which best effort left nothing, as it was, unless memory is wanting.
+/// An expression of which best effort left nothing, as it was, unless out of memory.
 pub fn given_up(e: &Expr, error: EvaluationError) -> Result<Expr, EvaluationError>
     ensures { (l : ModelLeft) → ((other : Stop) → is_memory error ≡ false → l ≡ stopped (stop_or other error)) → IsTree (best (tree_of e.now) l) result }
 {

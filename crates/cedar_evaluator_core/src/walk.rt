@@ -3,13 +3,15 @@
 ghost use Rattle.std.specs.Prelude.{map};
 ghost use Rattle.std.specs.Map.{values_of};
 ghost use Rattle.std.specs.Rc.{rc_str_bytes};
-ghost use Rattle.cedar_expr_model.specs.Builder.{trees, tree_fields};
+ghost use Rattle.cedar_expr_model.specs.Builder.{trees};
 ghost use Rattle.cedar_expr_model.specs.Parts.{listed, listed_fields};
 ghost use Rattle.cedar_expr_leaves.specs.Operators.{unary_op_of, binary_op_of};
 ghost use Rattle.cedar_expr_leaves.specs.Patterns.{pattern_of};
-ghost use Rattle.cedar_expr_model.specs.Tree.{choice, both, either, unary, binary, like, is_type, has_attr, has_path, get_attr, call, set_literal, record_literal};
+ghost use Rattle.cedar_expr_model.specs.Tree.{choice, both, either, unary, binary, like, is_type, has_attr, has_path, get_attr, call, set_literal};
 ghost use Rattle.cedar_expr_names.specs.Views.{plain_name_of, type_name_of};
-ghost use Rattle.cedar_expr_trees.specs.Trees.{tree_of, kind_tree, named, field_trees};
+ghost use Rattle.cedar_expr_trees.specs.Trees.{tree_of, kind_tree};
+ghost use Rattle.cedar_evaluator_requests.specs.Fields.{fields_in, fields_tree};
+ghost use Rattle.cedar_evaluator_reads.specs.Paths.{first_name, other_names};
 ghost use Rattle.cedar_evaluator_core.specs.Walked.{LeavesWithin, LeavesLevel, LeavesField, BestWithin, PiecesWithin};
 
 use crate::after::{
@@ -198,7 +200,7 @@ fn has_path<T: FunctionTable>(
     arg: &Expr,
     attrs: &Rc<NonEmpty<RcStr>>,
 ) -> Result<Left, EvaluationError>
-    ensures { LeavesLevel T.table T.answers_as known.now deeper (has_path (tree_of arg.now) (rc_str_bytes attrs.now.value.head) (map rc_str_bytes attrs.now.value.tail.items)) result }
+    ensures { LeavesLevel T.table T.answers_as known.now deeper (has_path (tree_of arg.now) (first_name attrs.now.value) (other_names attrs.now.value)) result }
 {
     match walk(alloc, known, deeper, arg) {
         Ok(arg) => known.path_left(alloc, arg, attrs),
@@ -325,7 +327,7 @@ fn record<T: FunctionTable>(
     deeper: u32,
     fields: &BTreeMap<RcStr, Expr>,
 ) -> Result<Left, EvaluationError>
-    ensures { LeavesLevel T.table T.answers_as known.now deeper (record_literal (tree_fields (named (field_trees fields.now.entries)))) result }
+    ensures { LeavesLevel T.table T.answers_as known.now deeper (fields_tree fields.now.entries) result }
 {
     match field_pieces(alloc, known, deeper, fields) {
         Ok(parts) => record_left(alloc, fields, parts),
@@ -341,7 +343,7 @@ fn field_pieces<T: FunctionTable>(
     deeper: u32,
     fields: &BTreeMap<RcStr, Expr>,
 ) -> Result<Vec<Left>, EvaluationError>
-    ensures { PiecesWithin T.table T.answers_as known.now deeper (values_of (listed_fields (tree_fields (named (field_trees fields.now.entries))))) result }
+    ensures { PiecesWithin T.table T.answers_as known.now deeper (values_of (listed_fields (fields_in fields.now.entries))) result }
 {
     let mut parts = room_for_fields(alloc, fields)?;
     let mut left = fields_of(fields);

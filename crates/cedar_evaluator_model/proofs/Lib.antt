@@ -20,3 +20,4 @@ pub mod Written
 pub mod Represented
 pub mod Again
 pub mod Residuals
+pub mod Restricted

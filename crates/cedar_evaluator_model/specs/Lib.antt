@@ -14,3 +14,4 @@ pub mod Worked
 pub mod WorkedResponses
 pub mod WorkedCompletions
 pub mod WorkedResiduals
+pub mod Functions

@@ -9,8 +9,14 @@ use Rattle.cedar_expr_model.specs.Order.{text_cmp, value_eq}
 use Rattle.cedar_expr_model.specs.Table.{Table, fails}
 use Rattle.cedar_expr_model.specs.Tree.{BinaryOp, equal, less, less_or_equal, plus, difference, times, remainder, is_in, get_tag, has_tag}
 use Rattle.cedar_expr_model.specs.Value.{V, prim, long, extension}
+use Rattle.cedar_expr_values.specs.Extensions.{extension_of}
+use Rattle.cedar_expr_values.specs.Values.{bare}
+use Rattle.cedar_expr_values.specs.declared.value.Value.{Value}
+use Rattle.cedar_expr_values.specs.declared.extension.ExtValue.{ExtValue}
 use Rattle.cedar_store_model.specs.Operators.{in_range, remains, says, ordered, calculated}
 use Rattle.cedar_store_model.specs.Outcome.{Res, val, err, overflow, zero_divisor, wrong_type}
+use Rattle.cedar_evaluator_model.specs.Scope.{Left}
+use Rattle.cedar_evaluator_model.specs.Steps.{left_of}
 use Rattle.cedar_evaluator_operators.specs.declared.arithmetic.NoNumber.{NoNumber}
 use Rattle.cedar_evaluator_operators.specs.declared.arithmetic.NoNumber.TheVariants.{Overflow, ZeroDivisor}
 
@@ -61,6 +67,18 @@ abbrev pub related : Table → BinaryOp → V → V → Res V
 related x equal v w = says (value_eq v w)
 related x less v w = ordered x is_lt v w
 related x o v w = ordered x is_le v w
+
+-- what a comparison of two values leaves, where values of these extension types have an order
+abbrev pub relation_left : List Name → BinaryOp → Value ExtValue → Value ExtValue → Left
+relation_left ns o v w = left_of (related (table_ordering ns) o (bare extension_of v) (bare extension_of w))
+
+-- what the test of the order of two such values leaves
+abbrev pub order_left : List Name → (Ordering → Bool) → Value ExtValue → Value ExtValue → Left
+order_left ns test v w = left_of (ordered (table_ordering ns) test (bare extension_of v) (bare extension_of w))
+
+-- an extension value
+abbrev pub extension_value : ExtValue → V
+extension_value x = extension (extension_of x).kind (extension_of x).key
 
 -- the order of two whole numbers, or of two values of one of these extension types
 abbrev pub order_of : List Name → V → V → Option Ordering

@@ -4,7 +4,6 @@ ghost use Rattle.std.specs.Prelude.{◌≡◌, not, Option, option_map};
 ghost use Rattle.cedar_expr_leaves.specs.Operators.{binary_op_of};
 ghost use Rattle.cedar_expr_model.specs.Name.{Name as ModelName};
 ghost use Rattle.cedar_expr_model.specs.Canonical.{is_subset, is_disjoint};
-ghost use Rattle.cedar_expr_model.specs.Made.{written};
 ghost use Rattle.cedar_expr_model.specs.Tree.{binary};
 ghost use Rattle.cedar_expr_names.specs.Views.{type_name_of};
 ghost use Rattle.cedar_expr_trees.specs.Trees.{tree_of};
@@ -12,9 +11,10 @@ ghost use Rattle.cedar_expr_values.specs.Extensions.{extension_of};
 ghost use Rattle.cedar_expr_values.specs.Values.{bare, made};
 ghost use Rattle.cedar_store_model.specs.Operators.{among_members, of_sets};
 ghost use Rattle.cedar_evaluator_model.specs.Scope.{residual};
-ghost use Rattle.cedar_evaluator_model.specs.Steps.{left_of, kind_of_value, kind_of_unknown, differ as model_differ, with_residual, combined_left};
+ghost use Rattle.cedar_evaluator_model.specs.Steps.{left_of, differ as model_differ, with_residual, combined_left};
 ghost use Rattle.cedar_evaluator_model.specs.Evaluation.{binary_left};
 ghost use Rattle.cedar_evaluator_errors.specs.Outcomes.{Leaves, Gives, left_seen};
+ghost use Rattle.cedar_evaluator_operators.specs.Operands.{value_first, value_second, no_value};
 ghost use Rattle.cedar_evaluator_operators.specs.Scopes.{scope_ordering};
 
 use crate::arithmetic::binary_arith;
@@ -77,7 +77,7 @@ fn decided_or_stays(
 
 // A value and a residual.
 fn value_first(alloc: Global, op: BinaryOp, v: &V, b: Expr) -> Result<Left, EvaluationError>
-    ensures { Leaves (with_residual (binary_op_of op) (kind_of_value (made extension_of v.now)) (kind_of_unknown (tree_of b)) (written (made extension_of v.now)) (tree_of b)) result }
+    ensures { Leaves (value_first (binary_op_of op) (made extension_of v.now) (tree_of b)) result }
 {
     let differs = differ(entity_kind(v), annotated(&b));
     let a = Expr::from_value(alloc, v)?;
@@ -86,7 +86,7 @@ fn value_first(alloc: Global, op: BinaryOp, v: &V, b: Expr) -> Result<Left, Eval
 
 // A residual and a value.
 fn value_second(alloc: Global, op: BinaryOp, a: Expr, v: &V) -> Result<Left, EvaluationError>
-    ensures { Leaves (with_residual (binary_op_of op) (kind_of_unknown (tree_of a)) (kind_of_value (made extension_of v.now)) (tree_of a) (written (made extension_of v.now))) result }
+    ensures { Leaves (value_second (binary_op_of op) (tree_of a) (made extension_of v.now)) result }
 {
     let differs = differ(annotated(&a), entity_kind(v));
     let b = Expr::from_value(alloc, v)?;
@@ -95,7 +95,7 @@ fn value_second(alloc: Global, op: BinaryOp, a: Expr, v: &V) -> Result<Left, Eva
 
 // Two residuals.
 fn no_value(alloc: Global, op: BinaryOp, a: Expr, b: Expr) -> Result<Left, EvaluationError>
-    ensures { Leaves (with_residual (binary_op_of op) (kind_of_unknown (tree_of a)) (kind_of_unknown (tree_of b)) (tree_of a) (tree_of b)) result }
+    ensures { Leaves (no_value (binary_op_of op) (tree_of a) (tree_of b)) result }
 {
     let differs = differ(annotated(&a), annotated(&b));
     decided_or_stays(alloc, op, differs, a, b)

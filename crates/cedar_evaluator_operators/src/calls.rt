@@ -1,11 +1,10 @@
 //! Calls of the functions of a table.
 
-ghost use Rattle.std.specs.Prelude.{◌≡◌, ◌∷◌, List, map, IfOk, None, refl};
+ghost use Rattle.std.specs.Prelude.{◌≡◌, ◌∷◌, map, IfOk, None, refl};
 ghost use Rattle.std.specs.Slice.Iter.{iter_rest};
 ghost use Rattle.std.specs.List.{list_any};
 ghost use Rattle.cedar_expr_names.specs.Views.{plain_name_of};
-ghost use Rattle.cedar_expr_model.specs.Name.{Name as ModelName, name_eq};
-ghost use Rattle.cedar_expr_model.specs.Made.{Made};
+ghost use Rattle.cedar_expr_model.specs.Name.{name_eq};
 ghost use Rattle.cedar_expr_model.specs.Table.{Called};
 ghost use Rattle.cedar_expr_model.specs.Tree.{long_core, extension_core, unknown};
 ghost use Rattle.cedar_expr_model.specs.Value.{V as ModelValue};
@@ -15,9 +14,10 @@ ghost use Rattle.cedar_expr_trees.specs.Unknowns.{unknown_of};
 ghost use Rattle.cedar_expr_values.specs.Extensions.{extension_of};
 ghost use Rattle.cedar_expr_values.specs.Types.{core_of};
 ghost use Rattle.cedar_expr_values.specs.Values.{made};
-ghost use Rattle.cedar_evaluator_model.specs.Scope.{MadeCalled, value_left, residual};
+ghost use Rattle.cedar_evaluator_model.specs.Scope.{value_left, residual};
 ghost use Rattle.cedar_evaluator_errors.specs.Outcomes.{Leaves};
 ghost use Rattle.cedar_evaluator_errors.specs.Calls.{call_by};
+ghost use Rattle.cedar_evaluator_operators.specs.Calls.{ForFunction, arguments_of};
 ghost use Rattle.cedar_evaluator_errors.specs.Answers.{IsMadeBy, AnswersMade};
 
 use crate::table::FunctionTable;
@@ -79,7 +79,7 @@ fn known_value(v: V) -> Result<Left, EvaluationError>
     Ok(PartialValue::Value(v))
 }
 
-// An unknown that a function leaves, whose type nothing tells.
+// An unknown that a function leaves, whose type isn't known.
 fn open_value(u: Unknown) -> Result<Left, EvaluationError>
     ensures { Leaves (residual (unknown (unknown_of u).name None)) result }
 {
@@ -89,7 +89,7 @@ fn open_value(u: Unknown) -> Result<Left, EvaluationError>
 
 // What a function answers at these arguments, which it may refuse.
 fn ask(alloc: Global, f: &ExtensionFunction, args: &[V]) -> Result<Left, EvaluationError>
-    ensures { (calls : ModelName → List Made → MadeCalled) (n : ModelName) → IsMadeBy f.now (calls n) → Leaves (call_by calls n (map (made extension_of) args.now) (function_signature f.now)) result }
+    ensures { ForFunction (IsMadeBy f.now) (λ calls n. Leaves (call_by calls n (arguments_of args.now) (function_signature f.now)) result) }
 {
     match f.call(alloc, args) {
         Ok(ExtensionOutputValue::Known(v)) => known_value(v),

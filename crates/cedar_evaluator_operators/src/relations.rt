@@ -3,14 +3,11 @@
 ghost use Rattle.std.specs.Prelude.{◌≡◌, true};
 ghost use Rattle.std.specs.Ordering.{is_lt, is_le};
 ghost use Rattle.cedar_expr_leaves.specs.Operators.{binary_op_of};
-ghost use Rattle.cedar_expr_model.specs.Value.{extension};
 ghost use Rattle.cedar_expr_values.specs.Extensions.{extension_of};
 ghost use Rattle.cedar_expr_values.specs.Values.{bare};
-ghost use Rattle.cedar_store_model.specs.Operators.{ordered};
 ghost use Rattle.cedar_store_model.specs.Outcome.{wrong_type};
-ghost use Rattle.cedar_evaluator_model.specs.Steps.{left_of};
 ghost use Rattle.cedar_evaluator_errors.specs.Outcomes.{Gives};
-ghost use Rattle.cedar_evaluator_operators.specs.Arithmetic.{is_relation, related, order_of, table_ordering};
+ghost use Rattle.cedar_evaluator_operators.specs.Arithmetic.{is_relation, relation_left, order_left, order_of, extension_value};
 ghost use Rattle.cedar_evaluator_reads.specs.Errors.{StopsWith};
 
 use crate::table::FunctionTable;
@@ -34,7 +31,7 @@ pub fn binary_relation<T: FunctionTable>(
     table: &T,
 ) -> Result<V, EvaluationError>
     requires { is_relation (binary_op_of op) ≡ true }
-    ensures { Gives (left_of (related (table_ordering (T.ordered_types_in table.now)) (binary_op_of op) (bare extension_of arg1.now) (bare extension_of arg2.now))) result }
+    ensures { Gives (relation_left (T.ordered_types_in table.now) (binary_op_of op) arg1.now arg2.now) result }
 {
     match op {
         BinaryOp::Eq => Ok(truth(arg1.same(arg2))),
@@ -46,7 +43,7 @@ pub fn binary_relation<T: FunctionTable>(
 // Whether the first value is below the second.
 #[tactic(auto, using(crate::proofs::Ordered::ordered_by_order))]
 fn less<T: FunctionTable>(alloc: Global, table: &T, v: &V, w: &V) -> Result<V, EvaluationError>
-    ensures { Gives (left_of (ordered (table_ordering (T.ordered_types_in table.now)) is_lt (bare extension_of v.now) (bare extension_of w.now))) result }
+    ensures { Gives (order_left (T.ordered_types_in table.now) is_lt v.now w.now) result }
 {
     match order(table, v, w) {
         Some(order) => Ok(truth(order.is_lt())),
@@ -62,7 +59,7 @@ fn less_or_equal<T: FunctionTable>(
     v: &V,
     w: &V,
 ) -> Result<V, EvaluationError>
-    ensures { Gives (left_of (ordered (table_ordering (T.ordered_types_in table.now)) is_le (bare extension_of v.now) (bare extension_of w.now))) result }
+    ensures { Gives (order_left (T.ordered_types_in table.now) is_le v.now w.now) result }
 {
     match order(table, v, w) {
         Some(order) => Ok(truth(order.is_le())),
@@ -85,7 +82,7 @@ fn order<T: FunctionTable>(table: &T, v: &V, w: &V) -> Option<Ordering>
 
 // The order of two values of one extension type that the table orders.
 fn order_extension<T: FunctionTable>(table: &T, x: &ExtValue, y: &ExtValue) -> Option<Ordering>
-    ensures { result ≡ order_of (T.ordered_types_in table.now) (extension (extension_of x.now).kind (extension_of x.now).key) (extension (extension_of y.now).kind (extension_of y.now).key) }
+    ensures { result ≡ order_of (T.ordered_types_in table.now) (extension_value x.now) (extension_value y.now) }
 {
     if x.typename().same(y.typename()) && table.is_ordered(x.typename()) {
         Some(x.key().cmp(y.key()))

@@ -8,13 +8,12 @@ ghost use Rattle.cedar_expr_model.specs.Made.{Made};
 ghost use Rattle.cedar_expr_model.specs.Table.{Called, Table};
 ghost use Rattle.cedar_expr_model.specs.Tree.{long_core, extension_core};
 ghost use Rattle.cedar_expr_model.specs.Value.{V as ModelValue};
-ghost use Rattle.cedar_expr_values.specs.Extensions.{extension_of};
-ghost use Rattle.cedar_expr_values.specs.Values.{made};
 ghost use Rattle.cedar_evaluator_model.specs.OfLaws.WellMade.{MakeValues};
 ghost use Rattle.cedar_evaluator_model.specs.Scope.{MadeCalled};
 ghost use Rattle.cedar_evaluator_errors.specs.Outcomes.{Leaves};
 ghost use Rattle.cedar_evaluator_errors.specs.Calls.{called_by};
 ghost use Rattle.cedar_evaluator_reads.specs.Errors.{expected_types};
+ghost use Rattle.cedar_evaluator_operators.specs.Calls.{ForCalls, arguments_of};
 
 use cedar_evaluator_errors::EvaluationError;
 use cedar_evaluator_reads::{Left, V};
@@ -38,7 +37,7 @@ pub trait FunctionTable {
     /// and their types are asked for. Errors: `FailedExtensionFunctionLookup`, `WrongNumArguments`, `TypeError`,
     /// `FailedExtensionFunctionExecution` and `OutOfMemory`.
     fn call(&self, alloc: Global, name: &Name, args: &[V]) -> Result<Left, EvaluationError>
-        ensures { (answers : ModelName → List ModelValue → Called) (calls : ModelName → List Made → MadeCalled) → answers_as self.now calls → Leaves (called_by (table self.now answers) calls (plain_name_of name.now) (map (made extension_of) args.now)) result };
+        ensures { ForCalls (table self.now) (answers_as self.now) (λ t calls. Leaves (called_by t calls (plain_name_of name.now) (arguments_of args.now)) result) };
 
     /// Whether the values of this extension type have an order.
     fn is_ordered(&self, name: &Name) -> bool

@@ -23,7 +23,7 @@ use Rattle.cedar_evaluator_errors.specs.Outcomes.{is_memory, stop_or}
 use Rattle.cedar_evaluator_errors.specs.declared.err.EvaluationError.{EvaluationError}
 use Rattle.cedar_evaluator_errors.specs.declared.err.EvaluationError.TheVariants.{TypeError, EntityAttrDoesNotExist, RecordAttrDoesNotExist}
 
--- it is an error of this kind, or out of memory
+-- it is an error of this fault, or out of memory
 abbrev pub StopsWith : Fault → EvaluationError → Type 0
 StopsWith f e = (other : Stop) → is_memory e ≡ false → errs f ≡ stopped (stop_or other e)
 
@@ -39,11 +39,11 @@ abbrev pub types_of : EvaluationError → Option (List CoreType × CoreType)
 types_of (TypeError e) = Some (expected_types e.expected, core_of e.actual)
 types_of e = None
 
--- One of these types is asked for and the value is none of them, or memory is wanting.
+-- One of these types is asked for and the value is none of them, or it is out of memory.
 abbrev pub AsksFor : List CoreType → V → EvaluationError → Type 0
 AsksFor ts v e = is_memory e ≡ false → types_of e ≡ Some (ts, core_type_of v)
 
--- what an error keeps of an attribute or tag that an entity lacks
+-- what an error keeps of an attribute or tag that is missing in an entity
 pub record MissingPart : Type 0 where
   pub entity : Uid
   pub name : Text
@@ -52,7 +52,7 @@ pub record MissingPart : Type 0 where
   pub available : List Text
   pub total : ℕ
 
--- and of a field that a record lacks
+-- and of a field that is missing in a record
 pub record MissingField : Type 0 where
   pub name : Text
   pub available : List Text
@@ -66,7 +66,7 @@ abbrev pub missing_field : EvaluationError → Option MissingField
 missing_field (RecordAttrDoesNotExist e) = Some (record { name = rc_str_bytes e.attr; available = map rc_str_bytes e.available_attrs.items; total = e.total_attrs })
 missing_field e = None
 
--- an error keeps this, or memory is wanting
+-- an error keeps this, or it is out of memory
 abbrev pub KeepsPart : MissingPart → EvaluationError → Type 0
 KeepsPart p e = is_memory e ≡ false → missing_part e ≡ Some p
 
@@ -80,13 +80,13 @@ first_five ns = take 5 ns
 abbrev pub has_name : {A : Type 0} → Text → List (Text × A) → Bool
 has_name a ps = is_some (lookup (bytes_eq a) ps)
 
--- an attribute, and a tag, that the entity lacks
+-- an attribute, and a tag, that is missing in the entity
 abbrev pub lacked_attribute : Uid → Text → Entity Made → MissingPart
 lacked_attribute u a e = record { entity = u; name = a; was_attribute = true; exists_the_other_kind = has_name a e.tags; available = first_five (keys_of e.attributes); total = length e.attributes }
 
 abbrev pub lacked_tag : Uid → Text → Entity Made → MissingPart
 lacked_tag u a e = record { entity = u; name = a; was_attribute = false; exists_the_other_kind = has_name a e.attributes; available = first_five (keys_of e.tags); total = length e.tags }
 
--- a field that a record of these names lacks
+-- a field that is missing in a record of these names
 abbrev pub lacked_field : Text → List Text → MissingField
 lacked_field a ns = record { name = a; available = first_five ns; total = length ns }

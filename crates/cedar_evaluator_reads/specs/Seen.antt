@@ -9,11 +9,13 @@ use Rattle.cedar_expr_names.specs.Views.{uid_of}
 use Rattle.cedar_expr_model.specs.Name.{Text}
 use Rattle.cedar_expr_model.specs.Uid.{Uid}
 use Rattle.cedar_expr_model.specs.Value.{entity}
-use Rattle.cedar_expr_model.specs.Made.{Made, made_prim, made_record}
+use Rattle.cedar_expr_model.specs.Made.{Made, MadeFields, made_prim, made_record}
 use Rattle.cedar_expr_model.specs.Tree.{Tree, get_attr, has_attr, record_literal}
 use Rattle.cedar_expr_model.specs.Builder.{tree_fields}
 use Rattle.cedar_expr_values.specs.Values.{made_fields, made_pair}
 use Rattle.cedar_expr_values.specs.Extensions.{extension_of}
+use Rattle.cedar_expr_values.specs.declared.value.Value.{Value}
+use Rattle.cedar_expr_values.specs.declared.extension.ExtValue.{ExtValue}
 use Rattle.cedar_expr_trees.specs.Trees.{tree_of, named, field_trees}
 use Rattle.cedar_expr_trees.specs.declared.expr.Expr.{Expr}
 use Rattle.cedar_store_model.specs.Outcome.{wrong_type}
@@ -28,6 +30,10 @@ use Rattle.cedar_evaluator_model.specs.Steps.{errs, attribute_of, test_of, path_
 use Rattle.cedar_evaluator_model.specs.Evaluation.{get_of_residual, has_of_residual}
 use Rattle.cedar_evaluator_reads.specs.declared.seen.Seen.{Seen}
 use Rattle.cedar_evaluator_reads.specs.declared.seen.Seen.TheVariants as seen
+
+-- the fields of a record of values
+abbrev pub record_fields : BTreeMap (RcStr Global) (Value ExtValue) Global → MadeFields
+record_fields m = made_fields (map (made_pair extension_of) m.entries)
 
 -- what the store answers for the uid
 abbrev pub IsFound : Found Made → Uid → Dereference Entity → Type 0

@@ -45,7 +45,7 @@ pub fn no_such_entity(uid: &Rc<EntityUID>, place: Option<Loc>) -> Result<Left, E
     Err(EvaluationError::EntityDoesNotExist(EntityDoesNotExistError { uid, source_loc }))
 }
 
-/// The refusal of an attribute that the entity lacks.
+/// The refusal of an attribute that is missing in the entity.
 pub fn no_such_attribute(
     alloc: Global,
     uid: &Rc<EntityUID>,
@@ -67,7 +67,7 @@ pub fn no_such_attribute(
     Err(EvaluationError::EntityAttrDoesNotExist(error))
 }
 
-/// The refusal of a tag that the entity lacks.
+/// The refusal of a tag that is missing in the entity.
 pub fn no_such_tag(
     alloc: Global,
     uid: &Rc<EntityUID>,
@@ -89,7 +89,7 @@ pub fn no_such_tag(
     Err(EvaluationError::EntityAttrDoesNotExist(error))
 }
 
-/// The refusal of a field that the record lacks.
+/// The refusal of a field that is missing in the record.
 pub fn no_such_field<T>(
     alloc: Global,
     fields: &BTreeMap<RcStr, T>,

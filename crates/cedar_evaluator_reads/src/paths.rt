@@ -11,9 +11,8 @@ ghost use Rattle.cedar_expr_values.specs.Extensions.{extension_of};
 ghost use Rattle.cedar_expr_values.specs.Values.{made};
 ghost use Rattle.cedar_store_entities.specs.Views.{part_seen};
 ghost use Rattle.cedar_evaluator_model.specs.Scope.{residual};
-ghost use Rattle.cedar_evaluator_model.specs.Steps.{on_value, path_of, path_step as model_step};
 ghost use Rattle.cedar_evaluator_errors.specs.Outcomes.{Leaves, left_seen};
-ghost use Rattle.cedar_evaluator_reads.specs.Paths.{Goes};
+ghost use Rattle.cedar_evaluator_reads.specs.Paths.{Goes, first_name, other_names, path_left, path_from, path_through, path_in_part};
 ghost use Rattle.cedar_evaluator_reads.specs.Scopes.{scope_seen};
 
 use crate::knowledge::{Knowledge, Left, V};
@@ -40,7 +39,7 @@ pub enum Step<'a> {
 
 // A path that stays.
 fn path_stays(alloc: Global, r: Expr, attrs: &Rc<NonEmpty<RcStr>>) -> Result<Left, EvaluationError>
-    ensures { Leaves (residual (path_test (tree_of r) (rc_str_bytes attrs.now.value.head) (map rc_str_bytes attrs.now.value.tail.items))) result }
+    ensures { Leaves (residual (path_test (tree_of r) (first_name attrs.now.value) (other_names attrs.now.value))) result }
 {
     if attrs.tail.is_empty() {
         return Ok(PartialValue::Residual(Expr::has_attr(alloc, r, attrs.head.clone()?)?));
@@ -83,7 +82,7 @@ impl<T> Knowledge<'_, T> {
         arg: Left,
         attrs: &Rc<NonEmpty<RcStr>>,
     ) -> Result<Left, EvaluationError>
-        ensures { Leaves (on_value (left_seen arg) (path_of (scope_seen self.now) (rc_str_bytes attrs.now.value.head) (map rc_str_bytes attrs.now.value.tail.items)) (λ r. residual (path_test r (rc_str_bytes attrs.now.value.head) (map rc_str_bytes attrs.now.value.tail.items)))) result }
+        ensures { Leaves (path_left (scope_seen self.now) attrs.now.value (left_seen arg)) result }
     {
         match arg {
             PartialValue::Value(v) => self.path(alloc, &attrs.head, attrs.tail.as_slice(), &v),
@@ -99,7 +98,7 @@ impl<T> Knowledge<'_, T> {
         others: &'a [RcStr],
         v: &'a V,
     ) -> Result<Left, EvaluationError>
-        ensures { Leaves (path_of (scope_seen self.now) (rc_str_bytes first.now) (map rc_str_bytes others.now) (made extension_of v.now)) result }
+        ensures { Leaves (path_from self.now first.now others.now (made extension_of v.now)) result }
     {
         let mut name = first;
         let mut rest = others;
@@ -126,7 +125,7 @@ impl<T> Knowledge<'_, T> {
         v: &'a V,
     ) -> Result<Step<'a>, EvaluationError>
         requires { rest.now ≡ next.now ∷ after.now }
-        ensures { Goes (path_of (scope_seen self.now) (rc_str_bytes name.now) (rc_str_bytes next.now ∷ map rc_str_bytes after.now) (made extension_of v.now)) (path_of (scope_seen self.now) (rc_str_bytes next.now) (map rc_str_bytes after.now)) result }
+        ensures { Goes (path_through self.now name.now next.now after.now (made extension_of v.now)) (path_from self.now next.now after.now) result }
     {
         match seen_as(v) {
             Seen::Entity(uid) => self.entity_step(alloc, name, rest, next, after, uid),
@@ -149,7 +148,7 @@ impl<T> Knowledge<'_, T> {
         uid: &EntityUID,
     ) -> Result<Step<'a>, EvaluationError>
         requires { rest.now ≡ next.now ∷ after.now }
-        ensures { Goes (path_of (scope_seen self.now) (rc_str_bytes name.now) (rc_str_bytes next.now ∷ map rc_str_bytes after.now) (made_prim (entity (uid_of uid.now)))) (path_of (scope_seen self.now) (rc_str_bytes next.now) (map rc_str_bytes after.now)) result }
+        ensures { Goes (path_through self.now name.now next.now after.now (made_prim (entity (uid_of uid.now)))) (path_from self.now next.now after.now) result }
     {
         match self.look_up(alloc, uid)? {
             Dereference::Data(entity) => {
@@ -168,7 +167,7 @@ impl<T> Knowledge<'_, T> {
         after: &[RcStr],
         found: Option<&'a PartialValue<ExtValue>>,
     ) -> Result<Step<'a>, EvaluationError>
-        ensures { Goes (model_step (path_of (scope_seen self.now) (rc_str_bytes next.now) (map rc_str_bytes after.now)) (rc_str_bytes next.now) (map rc_str_bytes after.now) (option_map (λ p. part_seen p.now) found.entry)) (path_of (scope_seen self.now) (rc_str_bytes next.now) (map rc_str_bytes after.now)) result }
+        ensures { Goes (path_in_part self.now next.now after.now (option_map (λ p. part_seen p.now) found.entry)) (path_from self.now next.now after.now) result }
     {
         match found {
             Some(PartialValue::Value(v)) => Ok(Step::On(v)),

@@ -1,6 +1,6 @@
 //! Attributes and tags of values, and whether they are there.
 
-ghost use Rattle.std.specs.Prelude.{◌≡◌, IfOk, map, option_map};
+ghost use Rattle.std.specs.Prelude.{◌≡◌, IfOk, option_map};
 ghost use Rattle.std.specs.Option.{option_map_or};
 ghost use Rattle.std.specs.Rc.{rc_str_bytes};
 ghost use Rattle.cedar_expr_names.specs.Views.{uid_of};
@@ -10,14 +10,14 @@ ghost use Rattle.cedar_expr_model.specs.ValueParts.{left};
 ghost use Rattle.cedar_expr_model.specs.Tree.{get_attr, has_attr};
 ghost use Rattle.cedar_expr_trees.specs.Trees.{tree_of};
 ghost use Rattle.cedar_expr_values.specs.Extensions.{extension_of};
-ghost use Rattle.cedar_expr_values.specs.Values.{made, made_fields, made_pair};
+ghost use Rattle.cedar_expr_values.specs.Values.{made};
 ghost use Rattle.cedar_store_entities.specs.Views.{part_seen};
 ghost use Rattle.cedar_store_model.specs.Outcome.{missing_field};
 ghost use Rattle.cedar_evaluator_model.specs.Scope.{residual, value_left};
 ghost use Rattle.cedar_evaluator_model.specs.Steps.{errs, made_named, part_left, tag_left, attribute_of, test_of, get_tag_found, has_tag_found, tag_of};
 ghost use Rattle.cedar_evaluator_errors.specs.Outcomes.{Leaves};
 ghost use Rattle.cedar_evaluator_reads.specs.Scopes.{scope_seen};
-ghost use Rattle.cedar_evaluator_reads.specs.Seen.{IsFound};
+ghost use Rattle.cedar_evaluator_reads.specs.Seen.{IsFound, record_fields};
 
 use crate::knowledge::{Knowledge, Left, V};
 use crate::leaves::{copied, truth};
@@ -58,7 +58,7 @@ fn field_value(
     fields: &BTreeMap<RcStr, V>,
     attr: &RcStr,
 ) -> Result<Left, EvaluationError>
-    ensures { Leaves (option_map_or value_left (made_named (rc_str_bytes attr.now) (made_fields (map (made_pair extension_of) fields.now.entries))) (errs missing_field)) result }
+    ensures { Leaves (option_map_or value_left (made_named (rc_str_bytes attr.now) (record_fields fields.now)) (errs missing_field)) result }
 {
     match field(fields, attr.as_str()) {
         Some(v) => copied(v),

@@ -1,17 +1,17 @@
 //! What values, entities and residual records are found to be.
 
-ghost use Rattle.std.specs.Prelude.{◌≡◌, IfOk, map, option_map};
+ghost use Rattle.std.specs.Prelude.{◌≡◌, IfOk, option_map};
 ghost use Rattle.cedar_expr_names.specs.Views.{uid_of};
 ghost use Rattle.cedar_expr_trees.specs.Trees.{tree_of, named, field_trees};
 ghost use Rattle.cedar_expr_model.specs.Builder.{tree_fields};
 ghost use Rattle.cedar_expr_values.specs.Extensions.{extension_of};
-ghost use Rattle.cedar_expr_values.specs.Values.{bare, made, made_fields, made_pair};
+ghost use Rattle.cedar_expr_values.specs.Values.{bare, made};
 ghost use Rattle.cedar_store_model.specs.Reads.{uid_of as value_uid};
 ghost use Rattle.cedar_evaluator_model.specs.Evaluation.{tree_named};
 ghost use Rattle.cedar_evaluator_model.specs.Steps.{made_named, kind_of_value, kind_of_unknown};
 ghost use Rattle.cedar_expr_names.specs.Views.{type_name_of};
 ghost use Rattle.cedar_evaluator_reads.specs.Scopes.{store_of};
-ghost use Rattle.cedar_evaluator_reads.specs.Seen.{IsFound, IsSeenAs, IsRecord};
+ghost use Rattle.cedar_evaluator_reads.specs.Seen.{IsFound, IsSeenAs, IsRecord, record_fields};
 
 use crate::knowledge::V;
 use cedar_expr_leaves::Literal;
@@ -78,7 +78,7 @@ pub fn look_up<'a>(
 
 /// The field of a record.
 pub fn field<'a>(fields: &'a BTreeMap<RcStr, V>, name: &str) -> Option<&'a V>
-    ensures { made_named name.now (made_fields (map (made_pair extension_of) fields.now.entries)) ≡ option_map (λ v. made extension_of v.now) result }
+    ensures { made_named name.now (record_fields fields.now) ≡ option_map (λ v. made extension_of v.now) result }
 {
     fields.get(name)
 }

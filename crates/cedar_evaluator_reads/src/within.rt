@@ -2,7 +2,6 @@
 
 ghost use Rattle.std.specs.Prelude.{◌≡◌, false, option_map, is_some, ◌||◌};
 ghost use Rattle.std.specs.List.{list_any, list_all};
-ghost use Rattle.std.specs.Option.{option_map_or};
 ghost use Rattle.std.specs.Slice.Iter.{iter_rest};
 ghost use Rattle.cedar_expr_names.specs.Views.{uid_of};
 ghost use Rattle.cedar_expr_model.specs.Uid.{uid_eq};
@@ -12,7 +11,7 @@ ghost use Rattle.cedar_store_model.specs.Reads.{is_in_some, uids_in, uid_of as v
 ghost use Rattle.cedar_evaluator_model.specs.Steps.{left_of, in_found, in_of};
 ghost use Rattle.cedar_evaluator_errors.specs.Outcomes.{Leaves, Gives};
 ghost use Rattle.cedar_evaluator_reads.specs.Scopes.{scope_seen};
-ghost use Rattle.cedar_evaluator_reads.specs.Ancestors.{ancestors_of};
+ghost use Rattle.cedar_evaluator_reads.specs.Ancestors.{ancestors_of, is_below_value};
 
 use crate::knowledge::{Knowledge, Left, V};
 use crate::leaves::truth;
@@ -122,14 +121,14 @@ ghost use Rattle.cedar_evaluator_reads.specs.Errors.{StopsWith};
 
 // Whether the uid is one of these entities, or has one as a recorded ancestor.
 fn is_below_some(uid: &EntityUID, entity: Option<&Entity>, mut values: Iter<'_, V>) -> bool
-    ensures { result ≡ list_any (λ v. option_map_or (λ u. uid_eq (uid_of uid.now) u || list_any (uid_eq u) (ancestors_of entity.entry)) (value_uid (bare extension_of v)) false) (iter_rest values.entry) }
+    ensures { result ≡ list_any (λ v. is_below_value (uid_of uid.now) (ancestors_of entity.entry) (bare extension_of v)) (iter_rest values.entry) }
 {
     values.any(|v| is_below_value(uid, entity, v))
 }
 
 // Whether the uid is this entity, or has it as a recorded ancestor. A value that is no entity is none.
 fn is_below_value(uid: &EntityUID, entity: Option<&Entity>, v: &V) -> bool
-    ensures { result ≡ option_map_or (λ u. uid_eq (uid_of uid.now) u || list_any (uid_eq u) (ancestors_of entity.entry)) (value_uid (bare extension_of v.now)) false }
+    ensures { result ≡ is_below_value (uid_of uid.now) (ancestors_of entity.entry) (bare extension_of v.now) }
 {
     match as_entity(v) {
         Some(other) => is_below(uid, entity, other),

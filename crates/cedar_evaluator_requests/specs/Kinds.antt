@@ -1,4 +1,4 @@
--- What kind a request is of.
+-- What type a request is of.
 -- Rule: partial evaluation (docs/RULES.md).
 use Rattle.std.specs.Prelude.{Option, Some, None}
 use Rattle.cedar_expr_model.specs.Uid.{Uid}

@@ -2,6 +2,8 @@ pub mod Copies
 pub mod Fields
 pub mod Infallible
 pub mod Kinds
+pub mod Parts
+pub mod Policies
 pub mod Schemas
 pub mod Views
 pub mod Groups

@@ -10,7 +10,7 @@ abbrev pub Passes : {S Q : Type 0} → (S → Q → Type 0) → Option (Bor S) �
 Passes passes (Some s) q = passes s.now q
 Passes passes None q = Unit {0}
 
--- The schema says this against the request, or memory is wanting.
+-- The schema says this against the request, or it is out of memory.
 abbrev pub Refuses : {S Q E : Type 0} → (S → Q → E → Type 0) → Option (Bor S) → Q → RequestError E → Type 0
 Refuses refuses s q OutOfMemory = Unit {0}
 Refuses refuses (Some s) q (Schema e) = refuses s.now q e

@@ -1,11 +1,13 @@
 -- What requests and their answers are in the model.
 -- Rule: partial evaluation; partial responses (docs/RULES.md).
 use Rattle.std.specs.Prelude.{List, [], ◌∷◌, map, Option, Some, None, codes}
+use Rattle.std.specs.Borrow.{Bor}
 use Rattle.std.specs.Map.{keys_of}
 use Rattle.std.specs.Rc.{rc_str_bytes}
 use Rattle.std.specs.declared.alloc.Global.{Global}
 use Rattle.std.specs.declared.rc.RcStr.{RcStr}
 use Rattle.cedar_expr_names.specs.Views.{uid_of, type_name_of}
+use Rattle.cedar_expr_names.specs.declared.entity.EntityUID.{EntityUID}
 use Rattle.cedar_expr_names.specs.declared.loc.Loc.{Loc}
 use Rattle.cedar_expr_model.specs.Name.{Text, Name}
 use Rattle.cedar_expr_model.specs.Uid.{Uid}
@@ -61,6 +63,10 @@ abbrev pub entry_type : Entry → Option Name
 entry_type (scope.uid u) = Some u.kind
 entry_type (scope.unknown_uid k) = k
 
+-- a uid that is lent, where there is one
+abbrev pub uid_lent : Option (Bor EntityUID) → Option Uid
+uid_lent u = option_map (λ b. uid_of b.now) u
+
 -- the record of fields that aren't values yet
 abbrev pub restricted_tree : RestrictedFields → Tree
 restricted_tree r = fields_tree r.fields.value.entries
@@ -84,10 +90,18 @@ abbrev pub context_or_unknown : Option Context → scope.Context
 context_or_unknown (Some c) = context_of c
 context_or_unknown None = scope.unknown_context
 
--- the request, and the places of its entries
+-- the request
 abbrev pub request_of : Request → PartialRequest
 request_of q = record { principal = entry_of q.principal; action = entry_of q.action; resource = entry_of q.resource; context = context_or_unknown q.context }
 
+-- the request of these uids and this context, and the request of these entries
+abbrev pub request_by_uids : EntityUID → EntityUID → EntityUID → Context → PartialRequest
+request_by_uids p a r c = record { principal = scope.uid (uid_of p); action = scope.uid (uid_of a); resource = scope.uid (uid_of r); context = context_of c }
+
+abbrev pub request_by_entries : EntityUIDEntry → EntityUIDEntry → EntityUIDEntry → Option Context → PartialRequest
+request_by_entries p a r c = record { principal = entry_of p; action = entry_of a; resource = entry_of r; context = context_or_unknown c }
+
+-- the places of its entries
 abbrev pub principal_place : Request → Option Loc
 principal_place q = entry_place q.principal
 
@@ -105,7 +119,7 @@ decision_of Deny = model.deny
 abbrev pub error_of : AuthorizationError → ResponseError
 error_of (PolicyEvaluationError i e) = record { id = id_text i; cause = cause_of e }
 
--- the error of evaluation that an error of a policy tells
+-- the error of evaluation that an error of a policy reports
 abbrev pub error_in : AuthorizationError → EvaluationError
 error_in (PolicyEvaluationError i e) = e
 

@@ -1,11 +1,12 @@
 //! What is left of policies, as policies.
 
-ghost use Rattle.std.specs.Prelude.{◌≡◌, ◌++◌, IfOk, OnOk, map};
+ghost use Rattle.std.specs.Prelude.{◌≡◌, IfOk, OnOk};
 ghost use Rattle.cedar_expr_trees.specs.Trees.{tree_of};
 ghost use Rattle.cedar_store_parts.specs.Parts.{effect_of};
 ghost use Rattle.cedar_store_policies.specs.Policies.{policy_of};
-ghost use Rattle.cedar_evaluator_model.specs.Members.{left_policy, of_true, of_false, of_residual};
-ghost use Rattle.cedar_evaluator_requests.specs.Groups.{noted_as, noted_seen, false_seen, residual_seen};
+ghost use Rattle.cedar_evaluator_model.specs.Members.{left_policy};
+ghost use Rattle.cedar_evaluator_requests.specs.Groups.{noted_as};
+ghost use Rattle.cedar_evaluator_requests.specs.Policies.{true_policies, false_policies, residual_policies, listed_policies, Appends};
 
 use crate::groups::ErrorState;
 use cedar_expr_leaves::Literal;
@@ -39,7 +40,7 @@ pub fn push_true(
     effect: Effect,
     group: &IndexMap<PolicyID, Rc<Annotations>>,
 ) -> Result<(), AllocError>
-    ensures { OnOk result (map policy_of policies.new.items ≡ map policy_of policies.old.items ++ of_true (effect_of effect) (map noted_seen group.now.entries)) }
+    ensures { OnOk result (Appends policies.old.items policies.new.items (true_policies effect group.now.entries)) }
 {
     let body = Rc::new(alloc, Expr::val(Literal::Bool(true)))?;
     for (id, annotations) in group {
@@ -55,7 +56,7 @@ pub fn push_false(
     effect: Effect,
     group: &IndexMap<PolicyID, (ErrorState, Rc<Annotations>)>,
 ) -> Result<(), AllocError>
-    ensures { OnOk result (map policy_of policies.new.items ≡ map policy_of policies.old.items ++ of_false (effect_of effect) (map false_seen group.now.entries)) }
+    ensures { OnOk result (Appends policies.old.items policies.new.items (false_policies effect group.now.entries)) }
 {
     let body = Rc::new(alloc, Expr::val(Literal::Bool(false)))?;
     for (id, kept) in group {
@@ -71,7 +72,7 @@ pub fn push_residual(
     effect: Effect,
     group: &IndexMap<PolicyID, (Rc<Expr>, Rc<Annotations>)>,
 ) -> Result<(), AllocError>
-    ensures { OnOk result (map policy_of policies.new.items ≡ map policy_of policies.old.items ++ of_residual (effect_of effect) (map residual_seen group.now.entries)) }
+    ensures { OnOk result (Appends policies.old.items policies.new.items (residual_policies effect group.now.entries)) }
 {
     for (id, kept) in group {
         policies.push(policy_left(alloc, effect, id, &kept.1, &kept.0)?)?;
@@ -88,7 +89,7 @@ pub fn push_all(
     falses: &IndexMap<PolicyID, (ErrorState, Rc<Annotations>)>,
     residuals: &IndexMap<PolicyID, (Rc<Expr>, Rc<Annotations>)>,
 ) -> Result<(), AllocError>
-    ensures { OnOk result (map policy_of policies.new.items ≡ map policy_of policies.old.items ++ (of_true (effect_of effect) (map noted_seen satisfied.now.entries) ++ (of_false (effect_of effect) (map false_seen falses.now.entries) ++ of_residual (effect_of effect) (map residual_seen residuals.now.entries)))) }
+    ensures { OnOk result (Appends policies.old.items policies.new.items (listed_policies effect satisfied.now.entries falses.now.entries residuals.now.entries)) }
 {
     push_true(alloc, policies, effect, satisfied)?;
     push_false(alloc, policies, effect, falses)?;

@@ -1,12 +1,10 @@
 //! Requests.
 
 ghost use Rattle.std.specs.Prelude.{◌≡◌, option_map, IfOk, IfErr};
-ghost use Rattle.cedar_expr_names.specs.Views.{uid_of};
 ghost use Rattle.cedar_store_parts.specs.Views.{kind_of};
-ghost use Rattle.cedar_evaluator_model.specs.Scope.{uid};
 ghost use Rattle.cedar_evaluator_requests.specs.Kinds.{kind_asked};
 ghost use Rattle.cedar_evaluator_requests.specs.Schemas.{Passes, Refuses};
-ghost use Rattle.cedar_evaluator_requests.specs.Views.{entry_of, request_of, context_of, context_or_unknown, principal_place, action_place, resource_place, entry_place};
+ghost use Rattle.cedar_evaluator_requests.specs.Views.{entry_of, request_of, request_by_uids, request_by_entries, context_or_unknown, principal_place, action_place, resource_place, entry_place};
 
 use crate::context::Context;
 use crate::entry::EntityUIDEntry;
@@ -51,12 +49,12 @@ impl Request {
         schema: Option<&S>,
         extensions: &Extensions<'_>,
     ) -> Result<Request, RequestError<S::Error>>
-        ensures request { IfOk result (λ q. request_of q ≡ record { principal = uid (uid_of principal.0); action = uid (uid_of action.0); resource = uid (uid_of resource.0); context = context_of context }) }
+        ensures request { IfOk result (λ q. request_of q ≡ request_by_uids principal.0 action.0 resource.0 context) }
         ensures principal_place { IfOk result (λ q. principal_place q ≡ principal.1) }
         ensures action_place { IfOk result (λ q. action_place q ≡ action.1) }
         ensures resource_place { IfOk result (λ q. resource_place q ≡ resource.1) }
         ensures passes { IfOk result (λ q. Passes S.passes_request schema.entry (request_of q)) }
-        ensures refuses { IfErr result (Refuses S.refuses_request schema.entry (record { principal = uid (uid_of principal.0); action = uid (uid_of action.0); resource = uid (uid_of resource.0); context = context_of context })) }
+        ensures refuses { IfErr result (Refuses S.refuses_request schema.entry (request_by_uids principal.0 action.0 resource.0 context)) }
     {
         let principal = EntityUIDEntry::known(alloc, principal.0, principal.1)?;
         let action = EntityUIDEntry::known(alloc, action.0, action.1)?;
@@ -83,12 +81,12 @@ impl Request {
         schema: Option<&S>,
         extensions: &Extensions<'_>,
     ) -> Result<Request, RequestError<S::Error>>
-        ensures request { IfOk result (λ q. request_of q ≡ record { principal = entry_of principal; action = entry_of action; resource = entry_of resource; context = context_or_unknown context }) }
+        ensures request { IfOk result (λ q. request_of q ≡ request_by_entries principal action resource context) }
         ensures principal_place { IfOk result (λ q. principal_place q ≡ entry_place principal) }
         ensures action_place { IfOk result (λ q. action_place q ≡ entry_place action) }
         ensures resource_place { IfOk result (λ q. resource_place q ≡ entry_place resource) }
         ensures passes { IfOk result (λ q. Passes S.passes_request schema.entry (request_of q)) }
-        ensures refuses { IfErr result (Refuses S.refuses_request schema.entry (record { principal = entry_of principal; action = entry_of action; resource = entry_of resource; context = context_or_unknown context })) }
+        ensures refuses { IfErr result (Refuses S.refuses_request schema.entry (request_by_entries principal action resource context)) }
     {
         let request = Request::new_unchecked(principal, action, resource, context);
         match schema {
@@ -107,7 +105,7 @@ impl Request {
         resource: EntityUIDEntry,
         context: Option<Context>,
     ) -> Request
-        ensures request { request_of result ≡ record { principal = entry_of principal; action = entry_of action; resource = entry_of resource; context = context_or_unknown context } }
+        ensures request { request_of result ≡ request_by_entries principal action resource context }
         ensures principal_place { principal_place result ≡ entry_place principal }
         ensures action_place { action_place result ≡ entry_place action }
         ensures resource_place { resource_place result ≡ entry_place resource }

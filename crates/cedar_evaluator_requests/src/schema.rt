@@ -1,11 +1,11 @@
 //! Schemas by which requests are validated.
 
-ghost use Rattle.std.specs.Prelude.{Option, option_map, IfOk, IfErr};
+ghost use Rattle.std.specs.Prelude.{Option, IfOk, IfErr};
 ghost use Rattle.cedar_expr_names.specs.Views.{uid_of};
 ghost use Rattle.cedar_expr_model.specs.Uid.{Uid};
 ghost use Rattle.cedar_evaluator_model.specs.Response.{PartialRequest};
 ghost use Rattle.cedar_evaluator_model.specs.Scope.{Context as ModelContext};
-ghost use Rattle.cedar_evaluator_requests.specs.Views.{request_of, context_of};
+ghost use Rattle.cedar_evaluator_requests.specs.Views.{request_of, context_of, uid_lent};
 
 use crate::context::Context;
 use crate::infallible::Infallible;
@@ -60,8 +60,8 @@ pub trait RequestSchema {
         action: Option<&EntityUID>,
         resource: Option<&EntityUID>,
     ) -> Result<(), Self::Error>
-        ensures passes { IfOk result (λ _. passes_variables self.now (option_map (λ u. uid_of u.now) principal.entry) (option_map (λ u. uid_of u.now) action.entry) (option_map (λ u. uid_of u.now) resource.entry)) }
-        ensures refuses { IfErr result (refuses_variables self.now (option_map (λ u. uid_of u.now) principal.entry) (option_map (λ u. uid_of u.now) action.entry) (option_map (λ u. uid_of u.now) resource.entry)) };
+        ensures passes { IfOk result (λ _. passes_variables self.now (uid_lent principal.entry) (uid_lent action.entry) (uid_lent resource.entry)) }
+        ensures refuses { IfErr result (refuses_variables self.now (uid_lent principal.entry) (uid_lent action.entry) (uid_lent resource.entry)) };
 }
 
 /// Why a request isn't made.

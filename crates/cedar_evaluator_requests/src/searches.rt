@@ -1,11 +1,6 @@
 //! The policies of ids.
 
-ghost use Rattle.std.specs.Prelude.{◌≡◌, ◌++◌, IfOk, map, find, option_map};
-ghost use Rattle.std.specs.Str.{bytes_eq};
-ghost use Rattle.cedar_store_parts.specs.Parts.{effect_of, id_text};
-ghost use Rattle.cedar_store_policies.specs.Policies.{policy_of};
-ghost use Rattle.cedar_evaluator_model.specs.Members.{of_true, of_false, of_residual};
-ghost use Rattle.cedar_evaluator_requests.specs.Groups.{noted_seen, false_seen, residual_seen};
+ghost use Rattle.cedar_evaluator_requests.specs.Policies.{true_policies, false_policies, residual_policies, searched_policies, Finds};
 
 use crate::groups::ErrorState;
 use crate::policies::policy_left;
@@ -26,7 +21,7 @@ pub fn policy_in(
     satisfied: &IndexMap<PolicyID, Rc<Annotations>>,
     falses: &IndexMap<PolicyID, (ErrorState, Rc<Annotations>)>,
 ) -> Result<Option<Policy>, AllocError>
-    ensures { IfOk result (λ o. option_map policy_of o ≡ find (λ p. bytes_eq (id_text id.now) p.id) (of_residual (effect_of effect) (map residual_seen residuals.now.entries) ++ (of_true (effect_of effect) (map noted_seen satisfied.now.entries) ++ of_false (effect_of effect) (map false_seen falses.now.entries)))) }
+    ensures { Finds id.now (searched_policies effect residuals.now.entries satisfied.now.entries falses.now.entries) result }
 {
     match residual_of(alloc, effect, id, residuals)? {
         Some(policy) => Ok(Some(policy)),
@@ -44,7 +39,7 @@ fn residual_of(
     id: &PolicyID,
     group: &IndexMap<PolicyID, (Rc<Expr>, Rc<Annotations>)>,
 ) -> Result<Option<Policy>, AllocError>
-    ensures { IfOk result (λ o. option_map policy_of o ≡ find (λ p. bytes_eq (id_text id.now) p.id) (of_residual (effect_of effect) (map residual_seen group.now.entries))) }
+    ensures { Finds id.now (residual_policies effect group.now.entries) result }
 {
     match group.get_key_value(id) {
         Some((id, kept)) => Ok(Some(policy_left(alloc, effect, id, &kept.1, &kept.0)?)),
@@ -59,7 +54,7 @@ fn true_of(
     id: &PolicyID,
     group: &IndexMap<PolicyID, Rc<Annotations>>,
 ) -> Result<Option<Policy>, AllocError>
-    ensures { IfOk result (λ o. option_map policy_of o ≡ find (λ p. bytes_eq (id_text id.now) p.id) (of_true (effect_of effect) (map noted_seen group.now.entries))) }
+    ensures { Finds id.now (true_policies effect group.now.entries) result }
 {
     match group.get_key_value(id) {
         Some((id, annotations)) => {
@@ -77,7 +72,7 @@ fn false_of(
     id: &PolicyID,
     group: &IndexMap<PolicyID, (ErrorState, Rc<Annotations>)>,
 ) -> Result<Option<Policy>, AllocError>
-    ensures { IfOk result (λ o. option_map policy_of o ≡ find (λ p. bytes_eq (id_text id.now) p.id) (of_false (effect_of effect) (map false_seen group.now.entries))) }
+    ensures { Finds id.now (false_policies effect group.now.entries) result }
 {
     match group.get_key_value(id) {
         Some((id, kept)) => {

@@ -16,9 +16,8 @@ use Rattle.cedar_evaluator_model.specs.Scope.{Scope, Left, value_left, residual,
 use Rattle.cedar_evaluator_model.specs.Steps.{Pieces, pieces, halted, record_left}
 use Rattle.cedar_evaluator_requests.specs.Views.{context_of}
 use Rattle.cedar_evaluator_requests.specs.declared.context.Context as code
-use Rattle.cedar_gate_model.specs.Bundle.{Functions}
-use Rattle.cedar_gate_model.specs.ReadingValue.{with_functions, left_of_restricted}
-use Rattle.cedar_gate_model.proofs.Reading.Values.{Clean, evaluated_clean, none_is}
+use Rattle.cedar_evaluator_model.specs.Functions.{Functions, with_functions, left_of_restricted}
+use Rattle.cedar_evaluator_model.proofs.Restricted.{Clean, evaluated_clean, none_is}
 use Rattle.cedar_evaluator_restricted_exprs.specs.Contexts.{IsOfRecord, IsContextOf}
 
 -- a context is made of what is left, or nothing is left

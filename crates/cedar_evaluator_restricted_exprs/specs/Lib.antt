@@ -4,5 +4,6 @@ pub mod Shapes
 pub mod Views
 pub mod Answers
 pub mod Lefts
+pub mod Levels
 pub mod Restricted
 pub mod Contexts

@@ -1,20 +1,15 @@
 //! Calls of the functions of a table.
 
-ghost use Rattle.std.specs.Prelude.{◌≡◌, List, map};
+ghost use Rattle.std.specs.Prelude.{map};
 ghost use Rattle.cedar_expr_names.specs.Views.{plain_name_of};
 ghost use Rattle.cedar_expr_model.specs.Name.{Name as ModelName};
-ghost use Rattle.cedar_expr_model.specs.Table.{Called};
-ghost use Rattle.cedar_expr_model.specs.Value.{V as ModelValue};
 ghost use Rattle.cedar_expr_functions.specs.Functions.{function_signature};
-ghost use Rattle.cedar_expr_functions.specs.Tables.{table_of};
 ghost use Rattle.cedar_expr_values.specs.Extensions.{extension_of};
 ghost use Rattle.cedar_expr_values.specs.Values.{made};
 ghost use Rattle.cedar_evaluator_model.specs.Scope.{Scope};
 ghost use Rattle.cedar_evaluator_model.specs.Steps.{call_left, called_left};
-ghost use Rattle.cedar_gate_model.specs.Bundle.{Functions};
-ghost use Rattle.cedar_gate_model.specs.ReadingValue.{with_functions};
-ghost use Rattle.cedar_evaluator_errors.specs.Answers.{IsMadeBy, AnswersMade};
-ghost use Rattle.cedar_evaluator_restricted_exprs.specs.Answers.{AgreesWith};
+ghost use Rattle.cedar_evaluator_errors.specs.Answers.{IsMadeBy};
+ghost use Rattle.cedar_evaluator_restricted_exprs.specs.Answers.{AgreesWith, ForFunctions, ForTable};
 ghost use Rattle.cedar_evaluator_restricted_exprs.specs.Lefts.{Leaves};
 
 use crate::fault::RestrictedFault;
@@ -36,7 +31,7 @@ pub fn call_in(
     name: &Name,
     args: &[V],
 ) -> Result<Left, RestrictedFault>
-    ensures { (x : Functions) (answers : ModelName → List ModelValue → Called) → x.table ≡ table_of table.now answers → AnswersMade table.now x.calls → Leaves (called_left (with_functions x) (plain_name_of name.now) (map (made extension_of) args.now)) result }
+    ensures { ForTable table.now (λ s. Leaves (called_left s (plain_name_of name.now) (map (made extension_of) args.now)) result) }
 {
     match table.func(name) {
         Ok(f) => ask(alloc, f, args),
@@ -74,7 +69,7 @@ fn call_agreeing(
     name: &Name,
     args: &[V],
 ) -> Result<Left, RestrictedFault>
-    ensures { (x : Functions) → AgreesWith table.now x → Leaves (called_left (with_functions x) (plain_name_of name.now) (map (made extension_of) args.now)) result }
+    ensures { ForFunctions (AgreesWith table.now) (λ s. Leaves (called_left s (plain_name_of name.now) (map (made extension_of) args.now)) result) }
 {
     match call_in(alloc, table, name, args) {
         Ok(left) => Ok(left),

@@ -9,7 +9,7 @@ ghost use Rattle.cedar_expr_values.specs.Values.{made};
 ghost use Rattle.cedar_evaluator_model.specs.Reauthorize.{context_from};
 ghost use Rattle.cedar_evaluator_model.specs.Scope.{value_left, residual};
 ghost use Rattle.cedar_evaluator_requests.specs.Views.{context_of};
-ghost use Rattle.cedar_evaluator_restricted_exprs.specs.Contexts.{IsOfRecord, IsContextOf};
+ghost use Rattle.cedar_evaluator_restricted_exprs.specs.Contexts.{IsOfRecord, IsContextOf, IsContextLeft};
 ghost use Rattle.cedar_evaluator_errors.specs.Outcomes.{left_seen};
 
 use crate::borrowed::BorrowedRestrictedExpr;
@@ -48,7 +48,7 @@ fn context_of_value(v: &V) -> Result<Option<Context>, AllocError>
 #[tactic(auto, using(crate::proofs::OfRecord::some_made))]
 fn context_of_expr(alloc: Global, e: &Expr) -> Result<Option<Context>, AllocError>
     ensures some { IfOk result (IsContextOf (residual (tree_of e.now))) }
-    ensures context { IfOk result (λ c. is_restricted (tree_of e.now) ≡ true → has_unknown (tree_of e.now) ≡ true → option_map context_of c ≡ context_from (residual (tree_of e.now))) }
+    ensures context { IfOk result (IsContextLeft (tree_of e.now)) }
 {
     if !e.contains_unknown() {
         return Ok(None);

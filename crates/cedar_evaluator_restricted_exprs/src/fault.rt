@@ -10,7 +10,7 @@ use std::alloc::{AllocError, AllocFailed};
 pub enum RestrictedFault {
     /// There is no memory.
     OutOfMemory,
-    /// The evaluation stops: a function lacks, refuses its arguments or fails, or the expression nests too deep.
+    /// The evaluation stops: a function is missing, refuses its arguments or fails, or the expression nests too deep.
     Stopped,
 }
 

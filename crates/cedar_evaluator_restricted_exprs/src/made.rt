@@ -62,7 +62,7 @@ impl RestrictedExpr {
     /// A record, by pairs of names and expressions.
     ///
     /// # Errors
-    /// `DuplicateKey` with a name that stands twice, whatever stands under it; `OutOfMemory`.
+    /// `DuplicateKey` with a name that is repeated, whatever is given for it; `OutOfMemory`.
     #[tactic(auto, using(crate::proofs::Parted::record_restricted))]
     pub fn record(
         alloc: Global,

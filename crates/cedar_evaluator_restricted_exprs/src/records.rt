@@ -4,14 +4,13 @@ ghost use Rattle.std.specs.Prelude.{◌≡◌, true, map, IfOk};
 ghost use Rattle.std.specs.List.{zip};
 ghost use Rattle.std.specs.Map.{keys_of};
 ghost use Rattle.cedar_expr_model.specs.Builder.{tree_fields};
-ghost use Rattle.cedar_expr_model.specs.Made.{made_record};
 ghost use Rattle.cedar_expr_model.specs.Records.{names_rise};
 ghost use Rattle.cedar_expr_model.specs.Tree.{record_literal};
 ghost use Rattle.cedar_expr_trees.specs.Trees.{tree_of, named};
 ghost use Rattle.cedar_expr_values.specs.Extensions.{extension_of};
 ghost use Rattle.cedar_expr_values.specs.Values.{made};
-ghost use Rattle.cedar_evaluator_model.specs.Scope.{value_left, residual};
-ghost use Rattle.cedar_evaluator_model.specs.Steps.{made_fields};
+ghost use Rattle.cedar_evaluator_model.specs.Scope.{residual};
+ghost use Rattle.cedar_evaluator_requests.specs.Parts.{record_of_values};
 ghost use Rattle.cedar_evaluator_restricted_exprs.specs.Lefts.{Leaves, names_in};
 
 use crate::fault::RestrictedFault;
@@ -49,7 +48,7 @@ pub fn record_value(
     fields: &BTreeMap<RcStr, Expr>,
     values: Vec<V>,
 ) -> Result<Left, RestrictedFault>
-    ensures { Leaves (value_left (made_record (made_fields (zip (names_in fields.now.entries) (map (made extension_of) values.items))))) result }
+    ensures { Leaves (record_of_values (names_in fields.now.entries) (map (made extension_of) values.items)) result }
 {
     let pairs = with_names(alloc, fields, values)?;
     Ok(PartialValue::Value(Value::record(alloc, pairs, None)?))

@@ -1,4 +1,4 @@
-//! Restricted expressions told apart by their shape alone.
+//! Restricted expressions compared by their shape alone.
 
 use crate::borrowed::BorrowedRestrictedExpr;
 use cedar_expr_shapes::ExprShapeOnly;

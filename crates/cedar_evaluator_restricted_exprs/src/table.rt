@@ -5,8 +5,8 @@ ghost use Rattle.cedar_expr_names.specs.Views.{plain_name_of};
 ghost use Rattle.cedar_expr_values.specs.Extensions.{extension_of};
 ghost use Rattle.cedar_expr_values.specs.Values.{made};
 ghost use Rattle.cedar_evaluator_model.specs.Steps.{called_left};
-ghost use Rattle.cedar_gate_model.specs.Bundle.{Functions};
-ghost use Rattle.cedar_gate_model.specs.ReadingValue.{with_functions};
+ghost use Rattle.cedar_evaluator_model.specs.Functions.{Functions};
+ghost use Rattle.cedar_evaluator_restricted_exprs.specs.Answers.{ForFunctions};
 ghost use Rattle.cedar_evaluator_restricted_exprs.specs.Lefts.{Leaves};
 
 use crate::fault::RestrictedFault;
@@ -30,5 +30,5 @@ pub trait FunctionCalls {
     /// and their types are asked for. Errors: `Stopped` where there is no such function, where it doesn't take the arguments or fails,
     /// and `OutOfMemory`.
     fn call(&self, alloc: Global, name: &Name, args: &[V]) -> Result<Left, RestrictedFault>
-        ensures { (x : Functions) → agrees self.now x → Leaves (called_left (with_functions x) (plain_name_of name.now) (map (made extension_of) args.now)) result };
+        ensures { ForFunctions (agrees self.now) (λ s. Leaves (called_left s (plain_name_of name.now) (map (made extension_of) args.now)) result) };
 }

@@ -1,21 +1,16 @@
 //! What is left where several parts are evaluated already.
 
 ghost use Rattle.std.specs.Prelude.{◌≡◌, map, IfOk};
-ghost use Rattle.std.specs.Map.{keys_of};
 ghost use Rattle.std.specs.Vec.Iter.{into_iter_items};
 ghost use Rattle.cedar_expr_names.specs.Views.{plain_name_of};
 ghost use Rattle.cedar_expr_model.specs.Made.{made_set};
-ghost use Rattle.cedar_expr_model.specs.Tree.{set_literal, call};
 ghost use Rattle.cedar_expr_values.specs.Extensions.{extension_of};
 ghost use Rattle.cedar_expr_values.specs.Values.{made};
 ghost use Rattle.cedar_evaluator_model.specs.Scope.{value_left};
-ghost use Rattle.cedar_evaluator_model.specs.Steps.{pieces, from_pieces, made_members, called_left, record_left};
-ghost use Rattle.cedar_expr_model.specs.Builder.{trees, tree_fields};
-ghost use Rattle.cedar_expr_model.specs.Parts.{listed_fields};
-ghost use Rattle.cedar_expr_trees.specs.Trees.{named, field_trees};
-ghost use Rattle.cedar_gate_model.specs.Bundle.{Functions};
-ghost use Rattle.cedar_gate_model.specs.ReadingValue.{with_functions};
-ghost use Rattle.cedar_evaluator_restricted_exprs.specs.Lefts.{Leaves, parts_of, IsParted};
+ghost use Rattle.cedar_evaluator_model.specs.Steps.{pieces, made_members, record_left};
+ghost use Rattle.cedar_evaluator_requests.specs.Parts.{set_of_parts, call_of_parts};
+ghost use Rattle.cedar_evaluator_restricted_exprs.specs.Answers.{ForFunctions};
+ghost use Rattle.cedar_evaluator_restricted_exprs.specs.Lefts.{Leaves, parts_of, names_in, IsParted};
 
 use crate::fault::RestrictedFault;
 use crate::records::{record_expr, record_value};
@@ -62,7 +57,7 @@ pub fn part_up(alloc: Global, parts: Vec<Left>) -> Result<Parted, AllocError>
 
 /// The set of these: a value where each is one.
 pub fn set_left(alloc: Global, parts: Vec<Left>) -> Result<Left, RestrictedFault>
-    ensures { Leaves (from_pieces (λ ms. value_left (made_set (made_members ms))) (λ us. set_literal (trees us)) (pieces (parts_of parts.items))) result }
+    ensures { Leaves (set_of_parts (parts_of parts.items)) result }
 {
     match part_up(alloc, parts)? {
         Parted::Values(values) => set_value(alloc, values),
@@ -85,7 +80,7 @@ pub fn call_left<T: FunctionCalls>(
     name: &Name,
     parts: Vec<Left>,
 ) -> Result<Left, RestrictedFault>
-    ensures { (x : Functions) → T.agrees functions.now x → Leaves (from_pieces (called_left (with_functions x) (plain_name_of name.now)) (λ us. call (plain_name_of name.now) (trees us)) (pieces (parts_of parts.items))) result }
+    ensures { ForFunctions (T.agrees functions.now) (λ s. Leaves (call_of_parts s (plain_name_of name.now) (parts_of parts.items)) result) }
 {
     match part_up(alloc, parts)? {
         Parted::Values(values) => functions.call(alloc, name, values.as_slice()),
@@ -102,7 +97,7 @@ pub fn record_left(
     fields: &BTreeMap<RcStr, Expr>,
     parts: Vec<Left>,
 ) -> Result<Left, RestrictedFault>
-    ensures { Leaves (record_left (keys_of (listed_fields (tree_fields (named (field_trees fields.now.entries))))) (pieces (parts_of parts.items))) result }
+    ensures { Leaves (record_left (names_in fields.now.entries) (pieces (parts_of parts.items))) result }
 {
     match part_up(alloc, parts)? {
         Parted::Values(values) => record_value(alloc, fields, values),

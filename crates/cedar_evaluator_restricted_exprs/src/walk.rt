@@ -2,19 +2,19 @@
 
 ghost use Rattle.std.specs.Prelude.{◌≡◌, true, map};
 ghost use Rattle.std.specs.Map.{values_of};
-ghost use Rattle.cedar_expr_model.specs.Builder.{trees, tree_fields};
+ghost use Rattle.cedar_expr_model.specs.Builder.{trees};
 ghost use Rattle.cedar_expr_model.specs.Made.{made_prim};
 ghost use Rattle.cedar_expr_model.specs.Parts.{listed, listed_fields};
 ghost use Rattle.cedar_expr_model.specs.Restricted.{is_restricted};
-ghost use Rattle.cedar_expr_model.specs.Tree.{call, set_literal, record_literal};
 ghost use Rattle.cedar_expr_leaves.specs.Literals.{literal_of};
-ghost use Rattle.cedar_expr_names.specs.Views.{plain_name_of};
-ghost use Rattle.cedar_expr_trees.specs.Trees.{tree_of, named, field_trees};
+ghost use Rattle.cedar_expr_trees.specs.Trees.{tree_of};
 ghost use Rattle.cedar_evaluator_model.specs.Scope.{value_left};
-ghost use Rattle.cedar_evaluator_model.specs.Evaluation.{evaluated, node, pieces_of};
-ghost use Rattle.cedar_gate_model.specs.Bundle.{Functions};
-ghost use Rattle.cedar_gate_model.specs.ReadingValue.{with_functions, left_of_restricted};
-ghost use Rattle.cedar_evaluator_restricted_exprs.specs.Lefts.{Leaves, ArePieces};
+ghost use Rattle.cedar_evaluator_model.specs.Evaluation.{evaluated};
+ghost use Rattle.cedar_evaluator_model.specs.Functions.{Functions, left_of_restricted};
+ghost use Rattle.cedar_evaluator_requests.specs.Fields.{fields_in, fields_tree};
+ghost use Rattle.cedar_evaluator_restricted_exprs.specs.Answers.{ForFunctions};
+ghost use Rattle.cedar_evaluator_restricted_exprs.specs.Lefts.{Leaves};
+ghost use Rattle.cedar_evaluator_restricted_exprs.specs.Levels.{LeavesLevel, PiecesWithin, call_of, set_of};
 ghost use Rattle.cedar_evaluator_restricted_exprs.specs.Restricted.{are_restricted, have_restricted};
 
 use crate::fault::RestrictedFault;
@@ -34,7 +34,7 @@ use std::rc::RcStr;
 const DEPTH: u32 = 512;
 
 /// What is left of a restricted expression: a value, or an expression where an unknown stands in it. Errors: `Stopped` where a function
-/// lacks, doesn't take its arguments or fails, or where the expression nests deeper than 512, and `OutOfMemory`.
+/// is missing, doesn't take its arguments or fails, or where the expression nests deeper than 512, and `OutOfMemory`.
 pub fn evaluate<T: FunctionCalls>(
     alloc: Global,
     functions: &T,
@@ -54,7 +54,7 @@ fn walk<T: FunctionCalls>(
     limit: u32,
     e: &Expr,
 ) -> Result<Left, RestrictedFault>
-    ensures { (x : Functions) → T.agrees functions.now x → is_restricted (tree_of e.now) ≡ true → Leaves (evaluated (with_functions x) limit (tree_of e.now)) result }
+    ensures { ForFunctions (T.agrees functions.now) (λ s. is_restricted (tree_of e.now) ≡ true → Leaves (evaluated s limit (tree_of e.now)) result) }
 {
     if limit == 0 {
         return Err(RestrictedFault::Stopped);
@@ -70,7 +70,7 @@ fn level<T: FunctionCalls>(
     deeper: u32,
     e: &Expr,
 ) -> Result<Left, RestrictedFault>
-    ensures { (x : Functions) → T.agrees functions.now x → is_restricted (tree_of e.now) ≡ true → Leaves (node (with_functions x) (evaluated (with_functions x) deeper) (tree_of e.now)) result }
+    ensures { ForFunctions (T.agrees functions.now) (λ s. is_restricted (tree_of e.now) ≡ true → LeavesLevel s deeper (tree_of e.now) result) }
 {
     match e.expr_kind() {
         ExprKind::Lit(literal) => literal_value(literal),
@@ -111,7 +111,7 @@ fn called<T: FunctionCalls>(
     name: &Name,
     args: &[Expr],
 ) -> Result<Left, RestrictedFault>
-    ensures { (x : Functions) → T.agrees functions.now x → are_restricted (map tree_of args.now) ≡ true → Leaves (node (with_functions x) (evaluated (with_functions x) deeper) (call (plain_name_of name.now) (trees (map tree_of args.now)))) result }
+    ensures { ForFunctions (T.agrees functions.now) (λ s. are_restricted (map tree_of args.now) ≡ true → LeavesLevel s deeper (call_of name.now args.now) result) }
 {
     let parts = pieces(alloc, functions, deeper, args)?;
     call_left(alloc, functions, name, parts)
@@ -125,7 +125,7 @@ fn set<T: FunctionCalls>(
     deeper: u32,
     members: &[Expr],
 ) -> Result<Left, RestrictedFault>
-    ensures { (x : Functions) → T.agrees functions.now x → are_restricted (map tree_of members.now) ≡ true → Leaves (node (with_functions x) (evaluated (with_functions x) deeper) (set_literal (trees (map tree_of members.now)))) result }
+    ensures { ForFunctions (T.agrees functions.now) (λ s. are_restricted (map tree_of members.now) ≡ true → LeavesLevel s deeper (set_of members.now) result) }
 {
     let parts = pieces(alloc, functions, deeper, members)?;
     set_left(alloc, parts)
@@ -139,7 +139,7 @@ fn pieces<T: FunctionCalls>(
     deeper: u32,
     exprs: &[Expr],
 ) -> Result<Vec<Left>, RestrictedFault>
-    ensures { (x : Functions) → T.agrees functions.now x → are_restricted (map tree_of exprs.now) ≡ true → ArePieces (pieces_of (evaluated (with_functions x) deeper) (listed (trees (map tree_of exprs.now)))) result }
+    ensures { ForFunctions (T.agrees functions.now) (λ s. are_restricted (map tree_of exprs.now) ≡ true → PiecesWithin s deeper (listed (trees (map tree_of exprs.now))) result) }
 {
     let mut values = Vec::with_capacity(alloc, exprs.len())?;
     for e in exprs {
@@ -156,7 +156,7 @@ fn record<T: FunctionCalls>(
     deeper: u32,
     fields: &BTreeMap<RcStr, Expr>,
 ) -> Result<Left, RestrictedFault>
-    ensures { (x : Functions) → T.agrees functions.now x → have_restricted fields.now.entries ≡ true → Leaves (node (with_functions x) (evaluated (with_functions x) deeper) (record_literal (tree_fields (named (field_trees fields.now.entries))))) result }
+    ensures { ForFunctions (T.agrees functions.now) (λ s. have_restricted fields.now.entries ≡ true → LeavesLevel s deeper (fields_tree fields.now.entries) result) }
 {
     let parts = field_pieces(alloc, functions, deeper, fields)?;
     record_left(alloc, fields, parts)
@@ -170,7 +170,7 @@ fn field_pieces<T: FunctionCalls>(
     deeper: u32,
     fields: &BTreeMap<RcStr, Expr>,
 ) -> Result<Vec<Left>, RestrictedFault>
-    ensures { (x : Functions) → T.agrees functions.now x → have_restricted fields.now.entries ≡ true → ArePieces (pieces_of (evaluated (with_functions x) deeper) (values_of (listed_fields (tree_fields (named (field_trees fields.now.entries)))))) result }
+    ensures { ForFunctions (T.agrees functions.now) (λ s. have_restricted fields.now.entries ≡ true → PiecesWithin s deeper (values_of (listed_fields (fields_in fields.now.entries))) result) }
 {
     let mut values = Vec::with_capacity(alloc, fields.len())?;
     let mut left = fields_of(fields);

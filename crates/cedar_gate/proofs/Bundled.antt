@@ -23,7 +23,7 @@ use Rattle.cedar_gate_bundles.specs.declared.bundle.Submission as code
 use Rattle.cedar_gate_fragments.specs.Written.{declared_by}
 use Rattle.cedar_gate_model.proofs.Runs.Read.{bundles_are_proper}
 use Rattle.cedar_gate_model.specs.Acceptance.{Submission, IsAccepted, warnings_of}
-use Rattle.cedar_gate_model.specs.Bundle.{Functions}
+use Rattle.cedar_evaluator_model.specs.Functions.{Functions}
 use Rattle.cedar_gate_model.specs.Lines.{Prints}
 use Rattle.cedar_gate_model.specs.ReadingBundle.{input_read}
 use Rattle.cedar_gate_model.specs.RunsAnswer.{Course, MakeFairly, course_of}

@@ -11,7 +11,8 @@ use Rattle.cedar_gate_model.proofs.Reading.Bundles.{numbers_in_range}
 use Rattle.cedar_gate_model.proofs.Reading.Steps.{given_some, if_some_of}
 use Rattle.cedar_gate_model.specs.Reading.{given}
 use Rattle.cedar_gate_model.specs.Acceptance.{Submission, Cause, schema, external, repeated_policy, unlinked_slot, slot_outside_scope, unknown_in_policy, nests_too_deep, unknown_entity_type, unknown_action, no_member, ill_typed, reaches_too_far, number_of, HasFault, IsAccepted}
-use Rattle.cedar_gate_model.specs.Bundle.{Functions, Bundle}
+use Rattle.cedar_evaluator_model.specs.Functions.{Functions}
+use Rattle.cedar_gate_model.specs.Bundle.{Bundle}
 use Rattle.cedar_gate_model.specs.Lines.{Status, Prints, refused_line, unreadable_line, warning_lines, run_lines, end_status}
 use Rattle.cedar_gate_model.specs.ReadingBundle.{input_read, bundle_read}
 use Rattle.cedar_gate_model.specs.Runs.{End, answered, opening_refused, supply_refused, binding_refused, answer_refused}

@@ -2,7 +2,7 @@
 use Rattle.std.proofs.Common.{List, ℕ, Option, Result, Ok, Err}
 use Rattle.cedar_expr_model.specs.Name.{Text}
 use Rattle.cedar_gate_model.specs.Headline.{Promises, PrintedIsPromised}
-use Rattle.cedar_gate_model.specs.Bundle.{Functions}
+use Rattle.cedar_evaluator_model.specs.Functions.{Functions}
 use Rattle.cedar_gate_model.specs.Lines.{Status, Prints}
 use Rattle.cedar_gate_model.specs.ReadingBundle.{input_read}
 use Rattle.cedar_gate_model.specs.RunsAnswer.{MakeFairly}

@@ -1,5 +1,6 @@
 -- Which courses are run at a gate.
 -- Rule: runs; the acceptance rules; extension functions (docs/RULES.md).
+pub use Rattle.cedar_gate_runs.specs.Courses.{CourseOpens}
 use Rattle.std.specs.Prelude.{◌≡◌, true, List, Some}
 use Rattle.cedar_expr_functions.specs.declared.extensions.Extensions.{Extensions}
 use Rattle.cedar_expr_model.specs.Uid.{Uid}
@@ -10,9 +11,9 @@ use Rattle.cedar_evaluator_model.specs.OfLaws.WellMade.{IsContextRepresented}
 use Rattle.cedar_evaluator_requests.specs.Views.{request_of}
 use Rattle.cedar_evaluator_requests.specs.declared.request.Request.{Request}
 use Rattle.cedar_evaluator_restricted_exprs.specs.Answers.{AgreesWith}
-use Rattle.cedar_gate_model.specs.Bundle.{Functions}
+use Rattle.cedar_evaluator_model.specs.Functions.{Functions}
 use Rattle.cedar_gate_model.specs.RunsAnswer.{Course, AnswerFairly}
-use Rattle.cedar_gate_model.specs.Session.{at_start, OpenRefusal, OpenFault}
+use Rattle.cedar_gate_model.specs.Session.{at_start}
 use Rattle.cedar_gate_runs.specs.Courses.{BindRepresented, IsHost}
 use Rattle.cedar_gate_runs.specs.Hosts.{Answers}
 use Rattle.cedar_gate_runs.specs.Steps.{steps_of}
@@ -42,6 +43,9 @@ pub record IsRunAt {B : _} {F : _} {γ : _} {H : Type 0} (g : Gate B F γ) (q : 
   pub course : IsCourseOf g q given c
   pub host : IsHost IsHonest answers c at_start c.steps h
 
--- nothing of the course's request keeps a session from being opened
-abbrev pub CourseOpens : Course → Type 0
-CourseOpens c = (f : OpenRefusal) → OpenFault c.start f → ⊥
+-- for each course of a request at the gate, and for each with these steps that the host answers for
+abbrev pub InEachCourseAt : {B : _} {F : _} {γ : _} → Gate B F γ → Request → (Course → Type 0) → Type 0
+InEachCourseAt g q holds = (c : Course) (given : List Step) → IsCourseOf g q given c → holds c
+
+abbrev pub InEachRunAt : {B : _} {F : _} {γ : _} {H : Type 0} → Gate B F γ → Request → List Step → (H → Type 0) → (H → Answers) → H → (Course → Type 0) → Type 0
+InEachRunAt g q given IsHonest answers h holds = (c : Course) → IsRunAt g q given IsHonest answers h c → holds c

@@ -1,13 +1,13 @@
 -- What a gate holds, and which submissions are what it was handed.
 -- Rule: the acceptance rules (docs/RULES.md).
-use Rattle.std.specs.Prelude.{◌≡◌, ℕ, List}
+use Rattle.std.specs.Prelude.{◌≡◌, ℕ, List, map}
 use Rattle.cedar_expr_functions.specs.Tables.{functions_of, ordered_of}
 use Rattle.cedar_expr_functions.specs.declared.extensions.Extensions.{Extensions}
 use Rattle.cedar_evaluator_restricted_exprs.specs.Answers.{AgreesWith}
 use Rattle.cedar_gate_accepted.specs.Handed.{IsHandedIn}
 use Rattle.cedar_gate.specs.declared.gate.Gate.{Gate}
 use Rattle.cedar_gate_fragments.specs.Written.{declared_by}
-use Rattle.cedar_gate_model.specs.Acceptance.{Submission}
+use Rattle.cedar_gate_model.specs.Acceptance.{Submission, warnings_of}
 use Rattle.cedar_gate_model.specs.Session.{Setup}
 use Rattle.cedar_gate_rules.specs.Limit.{levels_of}
 use Rattle.cedar_gate_rules.specs.Policies.{policies_of}
@@ -17,6 +17,7 @@ use Rattle.cedar_schema_model.specs.Declarations.{Declarations}
 use Rattle.cedar_schema_model.specs.Resolved.{schema_of}
 use Rattle.cedar_schema_model.specs.Schema.{Schema}
 use Rattle.cedar_store_model.specs.Policy.{Policy as ModelPolicy}
+use Rattle.cedar_store_parts.specs.Parts.{id_text}
 use Rattle.cedar_store_parts.specs.declared.policy_id.PolicyID.{PolicyID}
 use Rattle.cedar_store_policies.specs.declared.policy.Policy.{Policy}
 
@@ -45,6 +46,10 @@ limit_held g = g.limit
 
 abbrev pub warned_of : {B : _} {F : _} {g : _} → Gate B F g → List PolicyID
 warned_of g = g.warnings.items
+
+-- the gate warns of the policies that the submission warns of
+abbrev pub WarnsOf : {B : _} {F : _} {g : _} → Gate B F g → Submission → Type 0
+WarnsOf g s = map id_text (warned_of g) ≡ warnings_of s
 
 -- The submission is what the gate was handed.
 pub record IsOf {B : _} {F : _} {γ : _} (g : Gate B F γ) (s : Submission) : Type 0 where

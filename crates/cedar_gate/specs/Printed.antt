@@ -1,6 +1,6 @@
 -- What is printed for runs of the code.
 -- Rule: the lines; statuses and refusal numbers (docs/RULES.md).
-use Rattle.std.specs.Prelude.{◌≡◌, ◌++◌, List, Some, map, option_map}
+use Rattle.std.specs.Prelude.{◌≡◌, ◌++◌, List, Some, String, false, map, option_map, string_bytes}
 use Rattle.cedar_expr_model.specs.Name.{Text}
 use Rattle.cedar_expr_model.specs.Uid.{Uid}
 use Rattle.cedar_expr_model.specs.Made.{Made}
@@ -17,18 +17,22 @@ use Rattle.cedar_gate_bundles.specs.Bundles.{bundle_of}
 use Rattle.cedar_gate_bundles.specs.Written.{IsStoreWritten}
 use Rattle.cedar_gate_bundles.specs.declared.bundle.Bundle.{Bundle}
 use Rattle.cedar_gate_model.specs.Acceptance.{IsAccepted, warnings_of}
-use Rattle.cedar_gate_model.specs.Bundle.{Functions}
-use Rattle.cedar_gate_model.specs.Lines.{Status, entry_lines, end_lines, end_status, warning_lines}
+use Rattle.cedar_evaluator_model.specs.Functions.{Functions}
+use Rattle.cedar_gate_model.specs.Lines.{Status, entry_lines, end_lines, end_status, refused_line, warning_lines}
 use Rattle.cedar_gate_model.specs.Runs.{End}
 use Rattle.cedar_gate_model.specs.RunsAnswer.{Course, IsProper, IsRun, course_of}
 use Rattle.cedar_gate_model.specs.Transcript.{Entry}
+use Rattle.cedar_gate_accepted.specs.Causes.{is_memory, gate_fault_number}
+use Rattle.cedar_gate_accepted.specs.declared.fault.GateFault.{GateFault}
 use Rattle.cedar_gate_runs.specs.Hosts.{stored}
+use Rattle.cedar_gate_runs.specs.Statuses.{status_of}
 use Rattle.cedar_gate_runs.specs.declared.steps.Step.{Step}
 use Rattle.cedar_gate_runs.specs.declared.status.Status as code
 use Rattle.cedar_gate_runs.specs.declared.status.Status.TheVariants.{Answered, Refused, Unreadable, Stopped}
 use Rattle.cedar_gate.specs.Courses.{IsCourseOf}
 use Rattle.cedar_gate.specs.Gates.{warned_of}
 use Rattle.cedar_gate.specs.declared.gate.Gate.{Gate}
+use Rattle.cedar_gate.specs.declared.printing.Printed.{Printed}
 
 -- The store of the course has exactly these entities, and their values are as they are written.
 pub record IsStore (c : Course) (es : Entities) : Type 0 where
@@ -62,6 +66,18 @@ pub record PrintsAccepted (c : Course) (status : Status) (text : Text) : Type 0 
   pub run : Text
   pub prints : PrintsRunOf c status run
   pub all : text ≡ warning_lines c.submission ++ run
+
+-- the lines of a run of the course, with its status, were appended to a text
+abbrev pub AppendsRun : {Z : Type 0} → Course → code.Status → String Z → String Z → Type 0
+AppendsRun c status old new = AddsRun c (status_of status) (string_bytes old) (string_bytes new)
+
+-- what is printed is what this says may be
+abbrev pub IsPrinted : (Status → Text → Type 0) → Printed → Type 0
+IsPrinted May p = May (status_of p.status) (string_bytes p.text)
+
+-- a refusal is printed, of a fault other than out of memory
+abbrev pub IsRefusal : GateFault → Printed → Type 0
+IsRefusal f p = (is_memory f ≡ false) × (p.status ≡ Refused) × (string_bytes p.text ≡ refused_line (gate_fault_number f))
 
 -- the statuses of runs: answered, or stopped
 abbrev pub IsOfRun : code.Status → Type 0

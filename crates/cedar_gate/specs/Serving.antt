@@ -2,12 +2,17 @@
 -- Rule: the lines; statuses and refusal numbers (docs/RULES.md).
 use Rattle.std.specs.Prelude.{◌≡◌, ◌<◌, ℕ, List, Option, Some, None, length, take, Result, Ok, Err}
 use Rattle.std.specs.Io.KnownBytes.{Appends}
+use Rattle.cedar_expr_functions.specs.declared.extensions.Extensions.{Extensions}
 use Rattle.cedar_expr_model.specs.Name.{Text}
+use Rattle.cedar_evaluator_restricted_exprs.specs.Answers.{AgreesWith}
 use Rattle.cedar_gate_model.specs.Acceptance.{Cause, HasFault, IsAccepted, number_of}
+use Rattle.cedar_evaluator_model.specs.Functions.{Functions}
 use Rattle.cedar_gate_model.specs.Bundle.{Bundle}
 use Rattle.cedar_gate_model.specs.Lines as lines
+use Rattle.cedar_gate_model.specs.ReadingBundle.{input_read}
 use Rattle.cedar_gate_runs.specs.Statuses.{status_of}
 use Rattle.cedar_gate_runs.specs.declared.status.Status.{Status}
+use Rattle.cedar_gate.specs.Courses.{IsFair}
 use Rattle.cedar_gate.specs.declared.faults.ServeFault.{ServeFault}
 use Rattle.cedar_gate.specs.declared.faults.ServeFault.TheVariants.{Memory, Read, Write}
 
@@ -32,6 +37,13 @@ Judged (Some b) lines.is_refused text = (c : Cause) × HasFault c b.submission �
 Judged (Some b) lines.is_unreadable text = ⊥
 Judged (Some b) lines.is_answered text = IsAccepted b.submission
 Judged (Some b) lines.is_stopped text = IsAccepted b.submission
+
+-- What is served from a reader with these bytes left: by any functions by which the table is fair, and by any with which it agrees.
+abbrev pub ServesFair : {B : _} {F : _} {g : _} → (Functions → Option Bundle → lines.Status → Text → Type 0) → Extensions B F g → Option (List ℕ) → Option (List ℕ) → Option (List ℕ) → Result Status ServeFault → Type 0
+ServesFair May t input old new r = (bytes : List ℕ) (x : Functions) → input ≡ Some bytes → IsFair t x → ServeGives (May x (input_read x bytes)) old new r
+
+abbrev pub ServesAny : {B : _} {F : _} {g : _} → (Option Bundle → lines.Status → Text → Type 0) → Extensions B F g → Option (List ℕ) → Option (List ℕ) → Option (List ℕ) → Result Status ServeFault → Type 0
+ServesAny May t input old new r = (bytes : List ℕ) (x : Functions) → input ≡ Some bytes → AgreesWith t x → ServeGives (May (input_read x bytes)) old new r
 
 -- a fault other than that of the writer
 abbrev pub LeavesAlone : ServeFault → Type 0 → Type 0

@@ -1,13 +1,7 @@
 //! The gate.
 
-ghost use Rattle.std.specs.Prelude.{List};
-ghost use Rattle.cedar_expr_functions.specs.Tables.{table_of};
-ghost use Rattle.cedar_expr_model.specs.Name.{Name as ModelName};
-ghost use Rattle.cedar_expr_model.specs.Table.{Called};
-ghost use Rattle.cedar_expr_model.specs.Value.{V};
-ghost use Rattle.cedar_gate.specs.Handed.{submission_with};
+ghost use Rattle.cedar_gate.specs.Handed.{AreAccepted};
 ghost use Rattle.cedar_gate_accepted.specs.Alike.{IsKeptByTests};
-ghost use Rattle.cedar_gate_model.specs.Acceptance.{IsAccepted};
 ghost use Rattle.cedar_gate_fragments.specs.Written.{declared_by};
 ghost use Rattle.cedar_schema_built.specs.Views.{schema_kept};
 ghost use Rattle.cedar_schema_model.specs.Resolved.{schema_of};
@@ -41,7 +35,7 @@ pub struct Gate<'f, 't, 'e> {
     pub(crate) warnings: Vec<PolicyID>,
     ghost closed: { ClosedByTests (schema_kept schema) },
     ghost kept: { IsKeptByTests (schema_of (declared_by fragments.now)) (schema_kept schema) },
-    ghost accepted: { (answers : ModelName → List V → Called) → IsAccepted (submission_with (declared_by fragments.now) policies.items (table_of table.now answers) level limit) },
+    ghost accepted: { AreAccepted fragments.now policies.items table.now level limit },
 }
 
 impl Debug for Gate<'_, '_, '_> {
@@ -57,13 +51,10 @@ impl Debug for Gate<'_, '_, '_> {
 
 impl<'f, 't, 'e> Gate<'f, 't, 'e> {
     ghost use Rattle.std.specs.Prelude.{◌≡◌, map, IfOk, IfErr, OnOk};
-    ghost use Rattle.cedar_expr_functions.specs.Tables.{functions_of, ordered_of};
-    ghost use Rattle.cedar_gate_accepted.specs.Handed.{IsHandedIn};
-    ghost use Rattle.cedar_gate.specs.Gates.{IsOf, declared_in, schema_built, policies_held, table_held, level_held, limit_held, warned_of};
+    ghost use Rattle.cedar_gate.specs.Gates.{IsOf, declared_in, schema_built, policies_held, table_held, level_held, limit_held, warned_of, WarnsOf};
+    ghost use Rattle.cedar_gate.specs.Handed.{ForEachHandedIn};
     ghost use Rattle.cedar_gate_accepted.specs.Causes.{IsRefusedFor};
-    ghost use Rattle.cedar_gate_model.specs.Acceptance.{Submission, warnings_of, policies_for};
-    ghost use Rattle.cedar_gate_rules.specs.Limit.{levels_of};
-    ghost use Rattle.cedar_gate_rules.specs.Policies.{policies_of};
+    ghost use Rattle.cedar_gate_model.specs.Acceptance.{IsAccepted, Submission, policies_for};
     ghost use Rattle.cedar_gate_accepted.specs.Checks.{kind_asked};
     ghost use Rattle.cedar_store_parts.specs.Parts.{id_text};
 
@@ -79,9 +70,9 @@ impl<'f, 't, 'e> Gate<'f, 't, 'e> {
         level: u32,
         limit: NestLimit,
     ) -> Result<Gate<'f, 't, 'e>, GateFault>
-        ensures accepted { (s : Submission) → IsHandedIn (declared_by fragments.entry.now) (policies_of policies.items) (functions_of table.entry.now) (ordered_of table.entry.now) (levels_of limit) s → s.level ≡ level → OnOk result (IsAccepted s) }
-        ensures warnings { (s : Submission) → IsHandedIn (declared_by fragments.entry.now) (policies_of policies.items) (functions_of table.entry.now) (ordered_of table.entry.now) (levels_of limit) s → s.level ≡ level → IfOk result (λ g. map id_text (warned_of g) ≡ warnings_of s) }
-        ensures refused { (s : Submission) → IsHandedIn (declared_by fragments.entry.now) (policies_of policies.items) (functions_of table.entry.now) (ordered_of table.entry.now) (levels_of limit) s → s.level ≡ level → IfErr result (IsRefusedFor s) }
+        ensures accepted { ForEachHandedIn fragments.entry.now policies.items table.entry.now level limit (λ s. OnOk result (IsAccepted s)) }
+        ensures warnings { ForEachHandedIn fragments.entry.now policies.items table.entry.now level limit (λ s. IfOk result (λ g. WarnsOf g s)) }
+        ensures refused { ForEachHandedIn fragments.entry.now policies.items table.entry.now level limit (λ s. IfErr result (IsRefusedFor s)) }
         ensures declarations { IfOk result (λ g. declared_in g ≡ declared_by fragments.entry.now) }
         ensures policies { IfOk result (λ g. policies_held g ≡ policies.items) }
         ensures table { IfOk result (λ g. table_held g ≡ table.entry.now) }

@@ -22,6 +22,7 @@ pub use cedar_gate_sessions::{
 };
 pub use faults::ServeFault;
 pub use gate::Gate;
+pub use printing::print_run;
 pub use runs::run;
 pub use service::serve;
 pub use session::Session;

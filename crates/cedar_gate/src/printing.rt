@@ -1,18 +1,17 @@
 //! What is printed for an input.
 
-ghost use Rattle.std.specs.Prelude.{◌≡◌, true, false, Some, IfOk, is_some, string_bytes};
+ghost use Rattle.std.specs.Prelude.{◌≡◌, true, Some, IfOk, is_some, string_bytes};
 ghost use Rattle.cedar_evaluator_restricted_exprs.specs.Answers.{AgreesWith};
 ghost use Rattle.cedar_gate.specs.Courses.{IsFair};
-ghost use Rattle.cedar_gate.specs.Printed.{IsReadWell, IsServedBy, PrintsAccepted, AddsRun, IsOfRun};
+ghost use Rattle.cedar_gate.specs.Printed.{IsReadWell, IsServedBy, IsPrinted, IsRefusal, PrintsAccepted, AppendsRun, IsOfRun};
 ghost use Rattle.cedar_gate.specs.Serving.{Judged};
 ghost use Rattle.cedar_gate_bundles.specs.Bundles.{bundle_of};
-ghost use Rattle.cedar_gate_model.specs.Bundle.{Functions};
-ghost use Rattle.cedar_gate_model.specs.Lines.{Prints, refused_line, unreadable_line};
+ghost use Rattle.cedar_evaluator_model.specs.Functions.{Functions};
+ghost use Rattle.cedar_gate_model.specs.Lines.{Prints, unreadable_line};
 ghost use Rattle.cedar_gate_model.specs.ReadingBundle.{input_read};
 ghost use Rattle.cedar_gate_model.specs.RunsAnswer.{Course};
-ghost use Rattle.cedar_gate_accepted.specs.Causes.{is_memory, gate_fault_number};
+ghost use Rattle.cedar_gate_accepted.specs.Causes.{is_memory};
 ghost use Rattle.cedar_gate_runs.specs.Ends.{IsAnswered, IsStopped};
-ghost use Rattle.cedar_gate_runs.specs.Statuses.{status_of};
 
 use crate::gate::Gate;
 use crate::runs::run;
@@ -42,8 +41,8 @@ pub(crate) fn print_input(
     bytes: &[u8],
     table: &Extensions<'_>,
 ) -> Result<Printed, AllocError>
-    ensures prints { IfOk result (λ p. (x : Functions) → IsFair table.now x → Prints x (input_read x bytes.now) (status_of p.status) (string_bytes p.text)) }
-    ensures judged { IfOk result (λ p. (x : Functions) → AgreesWith table.now x → Judged (input_read x bytes.now) (status_of p.status) (string_bytes p.text)) }
+    ensures prints { IfOk result (λ p. (x : Functions) → IsFair table.now x → IsPrinted (Prints x (input_read x bytes.now)) p) }
+    ensures judged { IfOk result (λ p. (x : Functions) → AgreesWith table.now x → IsPrinted (Judged (input_read x bytes.now)) p) }
 {
     match read_input(alloc, table, bytes) {
         Ok(bundle) => print_submitted(alloc, bundle, table),
@@ -68,8 +67,8 @@ fn print_submitted(
     bundle: Bundle,
     table: &Extensions<'_>,
 ) -> Result<Printed, AllocError>
-    ensures prints { IfOk result (λ p. (x : Functions) → IsFair table.now x → IsReadWell x bundle → Prints x (Some (bundle_of x bundle)) (status_of p.status) (string_bytes p.text)) }
-    ensures judged { IfOk result (λ p. (x : Functions) → AgreesWith table.now x → Judged (Some (bundle_of x bundle)) (status_of p.status) (string_bytes p.text)) }
+    ensures prints { IfOk result (λ p. (x : Functions) → IsFair table.now x → IsReadWell x bundle → IsPrinted (Prints x (Some (bundle_of x bundle))) p) }
+    ensures judged { IfOk result (λ p. (x : Functions) → AgreesWith table.now x → IsPrinted (Judged (Some (bundle_of x bundle))) p) }
 {
     let Bundle {
         submission,
@@ -98,7 +97,7 @@ fn print_accepted(
     steps: Vec<Step>,
     store: Entities,
 ) -> Result<Printed, AllocError>
-    ensures prints { IfOk result (λ p. (c : Course) → IsServedBy gate.now request steps.items store c → PrintsAccepted c (status_of p.status) (string_bytes p.text)) }
+    ensures prints { IfOk result (λ p. (c : Course) → IsServedBy gate.now request steps.items store c → IsPrinted (PrintsAccepted c) p) }
     ensures status { IfOk result (λ p. IsOfRun p.status) }
 {
     let mut text = String::new(alloc);
@@ -107,8 +106,8 @@ fn print_accepted(
     Ok(Printed { status, text })
 }
 
-// Appends the lines of a run at a gate over this store, and gives the status.
-fn print_run(
+/// Appends the lines of a run of a request at a gate, over this store, and gives the status. Fails only when out of memory.
+pub fn print_run(
     alloc: Global,
     out: &mut String,
     gate: &Gate<'_, '_, '_>,
@@ -116,7 +115,7 @@ fn print_run(
     steps: Vec<Step>,
     store: Entities,
 ) -> Result<Status, AllocError>
-    ensures prints { IfOk result (λ status. (c : Course) → IsServedBy gate.now request steps.items store c → AddsRun c (status_of status) (string_bytes out.old) (string_bytes out.new)) }
+    ensures prints { IfOk result (λ status. (c : Course) → IsServedBy gate.now request steps.items store c → AppendsRun c status out.old out.new) }
     ensures status { IfOk result IsOfRun }
 {
     let mut host = StoreHost::new(alloc, store);
@@ -129,7 +128,7 @@ fn print_run(
 // Appends the lines of a run that came to its answer.
 fn print_transcript(out: &mut String, transcript: &Transcript) -> Result<Status, AllocError>
     requires { is_some transcript.now.answer ≡ true }
-    ensures prints { IfOk result (λ status. (c : Course) → IsAnswered c transcript.now → AddsRun c (status_of status) (string_bytes out.old) (string_bytes out.new)) }
+    ensures prints { IfOk result (λ status. (c : Course) → IsAnswered c transcript.now → AppendsRun c status out.old out.new) }
     ensures status { IfOk result IsOfRun }
 {
     match &transcript.answer {
@@ -143,7 +142,7 @@ fn print_transcript(out: &mut String, transcript: &Transcript) -> Result<Status,
 
 // Appends the lines of a run that stopped.
 fn print_stopped(out: &mut String, fault: &RunFault) -> Result<Status, AllocError>
-    ensures prints { IfOk result (λ status. (c : Course) → IsStopped c fault.now → AddsRun c (status_of status) (string_bytes out.old) (string_bytes out.new)) }
+    ensures prints { IfOk result (λ status. (c : Course) → IsStopped c fault.now → AppendsRun c status out.old out.new) }
     ensures status { IfOk result IsOfRun }
 {
     push_stopped(out, fault)?;
@@ -159,7 +158,7 @@ fn is_memory(fault: &GateFault) -> bool
 
 // What is printed for a refusal. Out of memory isn't printed.
 fn print_refusal(alloc: Global, fault: &GateFault) -> Result<Printed, AllocError>
-    ensures { IfOk result (λ p. (is_memory fault.now ≡ false) × (p.status ≡ Status.Refused) × (string_bytes p.text ≡ refused_line (gate_fault_number fault.now))) }
+    ensures { IfOk result (λ p. IsRefusal fault.now p) }
 {
     if is_memory(fault) {
         return Err(AllocError);

@@ -2,7 +2,7 @@
 
 ghost use Rattle.std.specs.Prelude.{◌≡◌, ◌<◌, true, [], ℕ, List, None, is_some, IfOk, IfErr};
 ghost use Rattle.cedar_expr_model.specs.Uid.{Uid};
-ghost use Rattle.cedar_gate.specs.Courses.{IsRunAt, CourseOpens};
+ghost use Rattle.cedar_gate.specs.Courses.{InEachRunAt, CourseOpens};
 ghost use Rattle.cedar_gate_model.specs.RunsAnswer.{Course};
 ghost use Rattle.cedar_gate_openings.specs.Faults.{IsOpenFault};
 ghost use Rattle.cedar_gate_runs.specs.Asking.{AskedBy, entries_done};
@@ -63,10 +63,10 @@ pub fn run<H: Host>(
     host: &mut H,
 ) -> Result<Transcript, RunFault>
     requires { H.faults host.old < u64.MAX }
-    ensures run { (c : Course) → IsRunAt gate.now request steps.items H.honest H.store host.old c → IsRunOf c result }
-    ensures promises { (c : Course) → IsRunAt gate.now request steps.items H.honest H.store host.old c → KeepsRun c result }
+    ensures run { InEachRunAt gate.now request steps.items H.honest H.store host.old (λ c. IsRunOf c result) }
+    ensures promises { InEachRunAt gate.now request steps.items H.honest H.store host.old (λ c. KeepsRun c result) }
     ensures host { HostSaw (H.asked host.old) (H.asked host.new) (H.faults host.old) (H.faults host.new) result }
-    ensures asked { (c : Course) → IsRunAt gate.now request steps.items H.honest H.store host.old c → CourseOpens c → AsksWell c (H.asked host.old) (H.asked host.new) result }
+    ensures asked { InEachRunAt gate.now request steps.items H.honest H.store host.old (λ c. CourseOpens c → AsksWell c (H.asked host.old) (H.asked host.new) result) }
     ensures answered { IfOk result (λ t. is_some t.answer ≡ true) }
     ensures no_answer { IfErr result (λ f. (run_fault_transcript f).answer ≡ None) }
 {

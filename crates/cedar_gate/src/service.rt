@@ -1,13 +1,9 @@
 //! The service: reads a bundle, and writes the lines that are printed for it.
 
-ghost use Rattle.std.specs.Prelude.{◌≡◌, List, ℕ, Some, IfErr};
-ghost use Rattle.cedar_evaluator_restricted_exprs.specs.Answers.{AgreesWith};
-ghost use Rattle.cedar_gate.specs.Courses.{IsFair};
-ghost use Rattle.cedar_gate.specs.Serving.{ServeGives, Judged, LeavesAlone};
-ghost use Rattle.cedar_gate_model.specs.Bundle.{Functions};
+ghost use Rattle.std.specs.Prelude.{◌≡◌, IfErr};
+ghost use Rattle.cedar_gate.specs.Serving.{ServesFair, ServesAny, Judged, LeavesAlone};
 ghost use Rattle.cedar_gate_model.specs.Headline.{Promises};
 ghost use Rattle.cedar_gate_model.specs.Lines.{Prints};
-ghost use Rattle.cedar_gate_model.specs.ReadingBundle.{input_read};
 
 use crate::faults::{ServeFault, read_all};
 use crate::printing::print_input;
@@ -25,10 +21,8 @@ fn serve_printed<R: Read + Drop, W: Write + Drop>(
     writer: &mut W,
     table: &Extensions<'_>,
 ) -> Result<Status, ServeFault>
-    ensures printed { (bytes : List ℕ) (x : Functions) → R.remaining reader ≡ Some bytes → IsFair table.now x
-        → ServeGives (Prints x (input_read x bytes)) (W.contents writer.old) (W.contents writer.new) result }
-    ensures judged { (bytes : List ℕ) (x : Functions) → R.remaining reader ≡ Some bytes → AgreesWith table.now x
-        → ServeGives (Judged (input_read x bytes)) (W.contents writer.old) (W.contents writer.new) result }
+    ensures printed { ServesFair Prints table.now (R.remaining reader) (W.contents writer.old) (W.contents writer.new) result }
+    ensures judged { ServesAny Judged table.now (R.remaining reader) (W.contents writer.old) (W.contents writer.new) result }
     ensures unchanged { IfErr result (λ e. LeavesAlone e (writer.new ≡ writer.old)) }
 {
     let input = read_all(alloc, &mut reader)?;
@@ -56,12 +50,9 @@ pub fn serve<R: Read + Drop, W: Write + Drop>(
     writer: &mut W,
     table: &Extensions<'_>,
 ) -> Result<Status, ServeFault>
-    ensures printed { (bytes : List ℕ) (x : Functions) → R.remaining reader ≡ Some bytes → IsFair table.now x
-        → ServeGives (Prints x (input_read x bytes)) (W.contents writer.old) (W.contents writer.new) result }
-    ensures headline { (bytes : List ℕ) (x : Functions) → R.remaining reader ≡ Some bytes → IsFair table.now x
-        → ServeGives (Promises x (input_read x bytes)) (W.contents writer.old) (W.contents writer.new) result }
-    ensures judged { (bytes : List ℕ) (x : Functions) → R.remaining reader ≡ Some bytes → AgreesWith table.now x
-        → ServeGives (Judged (input_read x bytes)) (W.contents writer.old) (W.contents writer.new) result }
+    ensures printed { ServesFair Prints table.now (R.remaining reader) (W.contents writer.old) (W.contents writer.new) result }
+    ensures headline { ServesFair Promises table.now (R.remaining reader) (W.contents writer.old) (W.contents writer.new) result }
+    ensures judged { ServesAny Judged table.now (R.remaining reader) (W.contents writer.old) (W.contents writer.new) result }
     ensures unchanged { IfErr result (λ e. LeavesAlone e (writer.new ≡ writer.old)) }
 {
     what_is_printed_is_promised();

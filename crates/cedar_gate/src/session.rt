@@ -1,13 +1,11 @@
 //! Sessions of a gate.
 
-ghost use Rattle.std.specs.Prelude.{◌≡◌, List, IfOk, IfErr, OnOk};
+ghost use Rattle.std.specs.Prelude.{◌≡◌, IfOk, IfErr, OnOk};
 ghost use Rattle.cedar_evaluator_requests.specs.Views.{request_of};
-ghost use Rattle.cedar_gate.specs.Courses.{IsCourseOf};
+ghost use Rattle.cedar_gate.specs.Courses.{InEachCourseAt};
 ghost use Rattle.cedar_gate.specs.Gates.{IsSetupOf, accepted_in};
-ghost use Rattle.cedar_gate_model.specs.RunsAnswer.{Course};
 ghost use Rattle.cedar_gate_model.specs.Session.{Setup, at_start};
 ghost use Rattle.cedar_gate_openings.specs.Faults.{opens, IsOpenFault};
-ghost use Rattle.cedar_gate_runs.specs.declared.steps.Step.{Step};
 ghost use Rattle.cedar_gate_sessions.specs.Courses.{Stands};
 ghost use Rattle.cedar_gate_sessions.specs.Sessions.{IsAt, IsSetup, gate_of};
 
@@ -29,7 +27,7 @@ impl Gate<'_, '_, '_> {
     pub fn open(&self, alloc: Global, request: Request) -> Result<Session<'_>, OpenFault>
         ensures gate { IfOk result (λ e. gate_of e ≡ self.entry.now) }
         ensures at { IfOk result (λ e. (x : Setup) → IsSetup IsSetupOf x self.entry.now request → IsAt IsSetupOf x at_start e) }
-        ensures stands { IfOk result (λ e. (c : Course) (steps : List Step) → IsCourseOf self.entry.now request steps c → Stands IsSetupOf accepted_in c at_start e) }
+        ensures stands { IfOk result (λ e. InEachCourseAt self.entry.now request (λ c. Stands IsSetupOf accepted_in c at_start e)) }
         ensures opens { OnOk result (opens (request_of request)) }
         ensures refused { IfErr result (IsOpenFault (request_of request)) }
     {

@@ -1,8 +1,8 @@
 -- The faults by which the gate refuses a submission: which are there, and their numbers.
 -- Rule: the acceptance rules; statuses and refusal numbers (docs/RULES.md).
-use Rattle.std.specs.Prelude.{◌≡◌, ℕ, Bool, true, false, Option, Some, None}
+use Rattle.std.specs.Prelude.{◌≡◌, ℕ, Bool, true, false, Option, Some, None, Result, IfErr}
 use Rattle.cedar_expr_model.specs.Lists.{is_nil}
-use Rattle.cedar_gate_model.specs.Acceptance.{Submission, schema, external, repeated_policy, unlinked_slot, slot_outside_scope, unknown_in_policy, nests_too_deep, unknown_entity_type, unknown_action, no_member, ill_typed, reaches_too_far, HasFault}
+use Rattle.cedar_gate_model.specs.Acceptance.{Submission, schema, external, repeated_policy, unlinked_slot, slot_outside_scope, unknown_in_policy, nests_too_deep, unknown_entity_type, unknown_action, no_member, ill_typed, reaches_too_far, HasFault, has_schema}
 use Rattle.cedar_gate_accepted.specs.Violations.{AreViolationsOf}
 use Rattle.cedar_schema_builder.specs.Faults.{fault_told}
 use Rattle.cedar_schema_builder.specs.declared.err.SchemaError.{SchemaError}
@@ -37,13 +37,13 @@ abbrev pub fault_of_schema : SchemaError → GateFault
 fault_of_schema error.OutOfMemory = OutOfMemory
 fault_of_schema e = Schema e
 
--- The fault of the declarations, if one is told, is there.
+-- The fault of the declarations, if one is reported, is there.
 abbrev pub IsTold : Submission → Option SchemaFault → Type 0
 IsTold s None = ⊥
 IsTold s (Some f) = HasFault (schema f) s
 
--- The submission has the fault that is named: out of memory is a fault of its own, an error of the declarations tells what is wrong with
--- them, and where policies reach too far all their violations are told, of which there is one at least.
+-- The submission has the fault that is named: out of memory is a fault of its own, an error of the declarations reports what is wrong with
+-- them, and where policies reach too far all their violations are reported, of which there is one at least.
 abbrev pub IsRefusedFor : Submission → GateFault → Type 0
 IsRefusedFor s OutOfMemory = Unit {0}
 IsRefusedFor s (Schema e) = IsTold s (fault_told e)
@@ -58,3 +58,7 @@ IsRefusedFor s UnknownAction = HasFault unknown_action s
 IsRefusedFor s EnumMember = HasFault no_member s
 IsRefusedFor s IllTyped = HasFault ill_typed s
 IsRefusedFor s (Level vs) = HasFault reaches_too_far s × AreViolationsOf s vs.items × (is_nil vs.items ≡ false)
+
+-- Where its declarations are well-formed and none is external, the submission has the fault.
+abbrev pub RefusesFor : {A : Type 0} → Submission → Result A GateFault → Type 0
+RefusesFor s r = has_schema s ≡ true → IfErr r (IsRefusedFor s)

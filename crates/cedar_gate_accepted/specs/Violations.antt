@@ -1,4 +1,4 @@
--- The violations of policies at a level, as a refusal tells them.
+-- The violations of policies at a level, as a refusal reports them.
 -- Rule: levels; the acceptance rules (docs/RULES.md).
 use Rattle.std.specs.Prelude.{◌≡◌, ℕ, List, map}
 use Rattle.std.specs.List.{flat_map}

@@ -1,13 +1,11 @@
 //! What is asked before typing.
 
 ghost use Rattle.std.specs.Prelude.{◌≡◌, true, IfOk, IfErr, OnOk};
-ghost use Rattle.cedar_expr_functions.specs.Tables.{functions_of, ordered_of};
-ghost use Rattle.cedar_gate_accepted.specs.Handed.{IsHandedIn, IsSeenBy};
+ghost use Rattle.cedar_gate_accepted.specs.Handed.{IsSeenBy, IsHandedOver};
 ghost use Rattle.cedar_gate_accepted.specs.Untyped.{admits_untyped, is_clear_of_all, scope_causes};
-ghost use Rattle.cedar_gate_accepted.specs.Causes.{IsRefusedFor};
+ghost use Rattle.cedar_gate_accepted.specs.Causes.{IsRefusedFor, RefusesFor};
 ghost use Rattle.cedar_gate_fragments.specs.Written.{declared_by};
-ghost use Rattle.cedar_gate_model.specs.Acceptance.{Submission, has_schema};
-ghost use Rattle.cedar_gate_rules.specs.Limit.{levels_of};
+ghost use Rattle.cedar_gate_model.specs.Acceptance.{Submission};
 ghost use Rattle.cedar_gate_rules.specs.Policies.{policies_of};
 ghost use Rattle.cedar_schema_built.specs.Views.{schema_kept};
 ghost use Rattle.cedar_schema_model.specs.KeptOf.{IsKeptOf};
@@ -38,7 +36,7 @@ fn check_by(
 ) -> Result<(), GateFault>
     requires { IsClosed (schema_kept schema.now) }
     ensures kept { (s : Submission) → IsSeenBy (schema_seen (schema_kept schema.now)) (policies_of policies.now) s → OnOk result (is_clear_of_all scope_causes s ≡ true) }
-    ensures refused { (s : Submission) → IsSeenBy (schema_seen (schema_kept schema.now)) (policies_of policies.now) s → has_schema s ≡ true → IfErr result (IsRefusedFor s) }
+    ensures refused { (s : Submission) → IsSeenBy (schema_seen (schema_kept schema.now)) (policies_of policies.now) s → RefusesFor s result }
 {
     let asked = SchemaAndFunctions::new(alloc, schema, table)?;
     check_names(alloc, &asked, policies)
@@ -57,9 +55,9 @@ pub fn admitted_schema(
     table: &Extensions<'_>,
     limit: NestLimit,
 ) -> Result<ValidatorSchema, GateFault>
-    ensures admitted { (s : Submission) → IsHandedIn (declared_by fragments.now) (policies_of policies.now) (functions_of table.now) (ordered_of table.now) (levels_of limit) s → OnOk result (admits_untyped s ≡ true) }
+    ensures admitted { (s : Submission) → IsHandedOver fragments.now policies.now table.now limit s → OnOk result (admits_untyped s ≡ true) }
     ensures kept { IfOk result (λ s. IsKeptOf (schema_of (declared_by fragments.now)) (schema_kept s)) }
-    ensures refused { (s : Submission) → IsHandedIn (declared_by fragments.now) (policies_of policies.now) (functions_of table.now) (ordered_of table.now) (levels_of limit) s → IfErr result (IsRefusedFor s) }
+    ensures refused { (s : Submission) → IsHandedOver fragments.now policies.now table.now limit s → IfErr result (IsRefusedFor s) }
 {
     seen_schemas_answer_alike();
     declarations_are_decided();

@@ -1,21 +1,20 @@
 //! What typing and levels say of policies, together.
 
-ghost use Rattle.std.specs.Prelude.{◌≡◌, ◌&&◌, ◌++◌, ◌∷◌, [], List, map, Some, if◌then◌else◌, IfOk, OnOk};
-ghost use Rattle.cedar_gate_accepted.specs.Checked.{ChecksAll};
+ghost use Rattle.std.specs.Prelude.{◌≡◌, ◌&&◌, ◌++◌, ◌∷◌, [], map, Some, if◌then◌else◌, IfOk, OnOk};
+ghost use Rattle.cedar_gate_accepted.specs.Checked.{ChecksAll, ChecksOneMore, AddsIds};
 ghost use Rattle.cedar_gate_rules.specs.Policies.{policies_of};
 ghost use Rattle.cedar_schema_model.specs.Types.{strict};
-ghost use Rattle.cedar_typechecker_model.specs.Verdicts.{policy_environments};
-ghost use Rattle.cedar_typechecker_policies.specs.Findings.{ChecksOver};
+ghost use Rattle.cedar_typechecker_policies.specs.Findings.{ChecksOverAll};
 ghost use Rattle.cedar_typechecker_policies.specs.Violations.{violation_told};
-ghost use Rattle.cedar_store_model.specs.Policy.{Policy as ModelPolicy};
-ghost use Rattle.cedar_store_parts.specs.Parts.{id_text};
+ghost use Rattle.cedar_typechecker_scopes.specs.Environments.{AreOfSchema};
 ghost use Rattle.cedar_store_policies.specs.Policies.{policy_of};
 
 use cedar_schema_joins::ValidationMode;
 use cedar_store_parts::PolicyID;
 use cedar_store_policies::{Policy, Template};
+use cedar_typechecker_environments::RequestEnv;
 use cedar_typechecker_levels::EntityDerefLevel;
-use cedar_typechecker_policies::{PolicyFindings, PolicyViolation, Subject, check_policy};
+use cedar_typechecker_policies::{PolicyFindings, PolicyViolation, Subject, check_policy_by};
 use cedar_typechecker_scopes::SchemaEnvironments;
 use std::alloc::{AllocError, Global};
 
@@ -30,7 +29,7 @@ pub(crate) struct Checked {
     pub(crate) warnings: Vec<PolicyID>,
 }
 
-// Puts these violations behind those that were found.
+// Appends these violations to those that were found.
 fn add_violations(
     found: &mut Vec<PolicyViolation>,
     violations: Vec<PolicyViolation>,
@@ -43,13 +42,13 @@ fn add_violations(
     Ok(())
 }
 
-// Puts the policy's id behind the warnings, if the policy is impossible.
+// Appends the policy's id to the warnings, if the policy is impossible.
 fn add_warning(
     warnings: &mut Vec<PolicyID>,
     policy: &Policy,
     is_impossible: bool,
 ) -> Result<(), AllocError>
-    ensures { OnOk result (map id_text warnings.new.items ≡ map id_text warnings.old.items ++ (if is_impossible then ((policy_of policy.now).id ∷ []) else [])) }
+    ensures { OnOk result (AddsIds warnings.old warnings.new (if is_impossible then ((policy_of policy.now).id ∷ []) else [])) }
 {
     if is_impossible {
         let id = policy.id().clone()?;
@@ -71,10 +70,11 @@ fn add_pass(checked: &mut Checked, passes: bool)
 fn findings_of<S: SchemaEnvironments>(
     alloc: Global,
     schema: &S,
+    own: &[RequestEnv],
     level: u32,
     policy: &Policy,
 ) -> Result<PolicyFindings, AllocError>
-    ensures { IfOk result (ChecksOver (Some level) strict (S.schema schema.now) (S.table schema.now) (policy_of policy.now) (policy_environments (S.schema schema.now) (policy_of policy.now))) }
+    ensures { AreOfSchema (S.schema schema.now) own.now → IfOk result (ChecksOverAll (Some level) strict (S.schema schema.now) (S.table schema.now) (policy_of policy.now)) }
 {
     let template: &Template = policy.template();
     let level = EntityDerefLevel::from(level);
@@ -84,20 +84,21 @@ fn findings_of<S: SchemaEnvironments>(
         bound: policy.env(),
         level: Some(level),
     };
-    check_policy(alloc, schema, ValidationMode::Strict, &subject)
+    check_policy_by(alloc, schema, own, ValidationMode::Strict, &subject)
 }
 
 // Adds what typing and levels say of one more policy.
 fn add_policy<S: SchemaEnvironments>(
     alloc: Global,
     schema: &S,
+    own: &[RequestEnv],
     level: u32,
     policy: &Policy,
     checked: &mut Checked,
 ) -> Result<(), AllocError>
-    ensures { OnOk result ((ps : List ModelPolicy) → ChecksAll level (S.schema schema.now) (S.table schema.now) ps checked.old → ChecksAll level (S.schema schema.now) (S.table schema.now) (ps ++ policy_of policy.now ∷ []) checked.new) }
+    ensures { AreOfSchema (S.schema schema.now) own.now → OnOk result (ChecksOneMore level (S.schema schema.now) (S.table schema.now) (policy_of policy.now) checked.old checked.new) }
 {
-    let found = findings_of(alloc, schema, level, policy)?;
+    let found = findings_of(alloc, schema, own, level, policy)?;
     add_warning(&mut checked.warnings, policy, found.is_impossible)?;
     add_pass(checked, found.passes);
     add_violations(&mut checked.violations, found.violations)?;
@@ -119,8 +120,10 @@ pub(crate) fn check_all<S: SchemaEnvironments>(
         violations: Vec::new(alloc),
         warnings: Vec::new(alloc),
     };
+    let envs = schema.environments(alloc)?;
+    let own = envs.as_slice();
     for policy in policies {
-        add_policy(alloc, schema, level, policy, &mut checked)?;
+        add_policy(alloc, schema, own, level, policy, &mut checked)?;
     }
     Ok(checked)
 }

@@ -2,7 +2,7 @@
 
 ghost use Rattle.std.specs.Prelude.{◌≡◌, ◌&&◌, map, IfOk};
 ghost use Rattle.std.specs.List.{list_all};
-ghost use Rattle.cedar_gate_accepted.specs.Checks.{kind_asked, is_excused_for};
+ghost use Rattle.cedar_gate_accepted.specs.Checks.{kind_asked, is_excused};
 ghost use Rattle.cedar_store_policies.specs.Policies.{policy_of};
 ghost use Rattle.cedar_typechecker_environments.specs.Settings.{environment_of};
 ghost use Rattle.cedar_typechecker_model.specs.Verdicts.{fits, is_of_request, irrelevant_for, is_false, condition_type};
@@ -55,7 +55,7 @@ fn is_excused_in<S: TypingSchema>(
     policy: &Policy,
     env: &RequestEnv,
 ) -> Result<bool, AllocError>
-    ensures { IfOk result (λ b. b ≡ is_excused_for (kind_asked kind.now) (S.schema schema.now) (S.table schema.now) (policy_of policy.now) (environment_of env.now)) }
+    ensures { IfOk result (λ b. b ≡ is_excused S.schema S.table schema.now kind.now policy.now (environment_of env.now)) }
 {
     if is_asked(kind, policy, env) {
         is_false_in(alloc, schema, policy, env)
@@ -72,7 +72,7 @@ fn are_excused<S: TypingSchema>(
     policy: &Policy,
     envs: &[RequestEnv],
 ) -> Result<bool, AllocError>
-    ensures { IfOk result (λ b. b ≡ list_all (is_excused_for (kind_asked kind.now) (S.schema schema.now) (S.table schema.now) (policy_of policy.now)) (map environment_of envs.now)) }
+    ensures { IfOk result (λ b. b ≡ list_all (is_excused S.schema S.table schema.now kind.now policy.now) (map environment_of envs.now)) }
 {
     for env in envs {
         if !is_excused_in(alloc, schema, kind, policy, env)? {

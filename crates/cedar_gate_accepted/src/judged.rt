@@ -1,15 +1,12 @@
 //! The two rules that typing and levels decide.
 
-ghost use Rattle.std.specs.Prelude.{◌≡◌, true, map, IfOk, IfErr, OnOk};
-ghost use Rattle.cedar_expr_functions.specs.Tables.{table_of};
-ghost use Rattle.cedar_gate_accepted.specs.Checked.{IsTypedBy, IsJudgedBy, IsClearOfTyping};
-ghost use Rattle.cedar_gate_accepted.specs.Causes.{IsRefusedFor};
-ghost use Rattle.cedar_gate_model.specs.Acceptance.{Submission, has_schema, warnings_of};
+ghost use Rattle.std.specs.Prelude.{◌≡◌, IfOk, OnOk};
+ghost use Rattle.cedar_gate_accepted.specs.Checked.{IsTypedBy, IsJudgedBy, IsClearOfTyping, IsTypedWith, WarnsOf};
+ghost use Rattle.cedar_gate_accepted.specs.Causes.{RefusesFor};
+ghost use Rattle.cedar_gate_model.specs.Acceptance.{Submission};
 ghost use Rattle.cedar_gate_rules.specs.Policies.{policies_of};
 ghost use Rattle.cedar_schema_built.specs.Views.{schema_kept};
-ghost use Rattle.cedar_store_parts.specs.Parts.{id_text};
-ghost use Rattle.cedar_typechecker.specs.SchemaViews.{silent};
-ghost use Rattle.cedar_typechecker_model.specs.Seen.{schema_seen, IsClosed};
+ghost use Rattle.cedar_typechecker_model.specs.Seen.{IsClosed};
 
 use crate::checked::{Checked, check_all};
 use crate::fault::GateFault;
@@ -27,7 +24,7 @@ use std::alloc::Global;
 fn judged(checked: Checked) -> Result<Vec<PolicyID>, GateFault>
     ensures kept { (s : Submission) → IsJudgedBy s checked → OnOk result (IsClearOfTyping s) }
     ensures warnings { IfOk result (λ ws. ws ≡ checked.warnings) }
-    ensures refused { (s : Submission) → IsJudgedBy s checked → has_schema s ≡ true → IfErr result (IsRefusedFor s) }
+    ensures refused { (s : Submission) → IsJudgedBy s checked → RefusesFor s result }
 {
     if !checked.passes {
         return Err(GateFault::IllTyped);
@@ -48,8 +45,8 @@ fn judge_by<S: SchemaEnvironments>(
     policies: &[Policy],
 ) -> Result<Vec<PolicyID>, GateFault>
     ensures kept { (s : Submission) → IsTypedBy (S.schema schema.now) (S.table schema.now) (policies_of policies.now) level s → OnOk result (IsClearOfTyping s) }
-    ensures warnings { (s : Submission) → IsTypedBy (S.schema schema.now) (S.table schema.now) (policies_of policies.now) level s → IfOk result (λ ws. map id_text ws.items ≡ warnings_of s) }
-    ensures refused { (s : Submission) → IsTypedBy (S.schema schema.now) (S.table schema.now) (policies_of policies.now) level s → has_schema s ≡ true → IfErr result (IsRefusedFor s) }
+    ensures warnings { (s : Submission) → IsTypedBy (S.schema schema.now) (S.table schema.now) (policies_of policies.now) level s → IfOk result (WarnsOf s) }
+    ensures refused { (s : Submission) → IsTypedBy (S.schema schema.now) (S.table schema.now) (policies_of policies.now) level s → RefusesFor s result }
 {
     verdicts_are_alike();
     levels_are_alike();
@@ -67,9 +64,9 @@ pub fn judge(
     policies: &[Policy],
 ) -> Result<Vec<PolicyID>, GateFault>
     requires { IsClosed (schema_kept schema.now) }
-    ensures kept { (s : Submission) → IsTypedBy (schema_seen (schema_kept schema.now)) (table_of table.now silent) (policies_of policies.now) level s → OnOk result (IsClearOfTyping s) }
-    ensures warnings { (s : Submission) → IsTypedBy (schema_seen (schema_kept schema.now)) (table_of table.now silent) (policies_of policies.now) level s → IfOk result (λ ws. map id_text ws.items ≡ warnings_of s) }
-    ensures refused { (s : Submission) → IsTypedBy (schema_seen (schema_kept schema.now)) (table_of table.now silent) (policies_of policies.now) level s → has_schema s ≡ true → IfErr result (IsRefusedFor s) }
+    ensures kept { (s : Submission) → IsTypedWith schema.now table.now policies.now level s → OnOk result (IsClearOfTyping s) }
+    ensures warnings { (s : Submission) → IsTypedWith schema.now table.now policies.now level s → IfOk result (WarnsOf s) }
+    ensures refused { (s : Submission) → IsTypedWith schema.now table.now policies.now level s → RefusesFor s result }
 {
     let asked = SchemaAndFunctions::new(alloc, schema, table)?;
     judge_by(alloc, &asked, level, policies)

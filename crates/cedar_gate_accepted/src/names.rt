@@ -1,10 +1,10 @@
 //! The scope rules.
 
-ghost use Rattle.std.specs.Prelude.{◌≡◌, true, IfErr, OnOk};
+ghost use Rattle.std.specs.Prelude.{◌≡◌, true, OnOk};
 ghost use Rattle.cedar_gate_accepted.specs.Handed.{IsSeenBy};
 ghost use Rattle.cedar_gate_accepted.specs.Untyped.{is_clear_of_all, scope_causes};
-ghost use Rattle.cedar_gate_accepted.specs.Causes.{IsRefusedFor};
-ghost use Rattle.cedar_gate_model.specs.Acceptance.{Submission, has_schema};
+ghost use Rattle.cedar_gate_accepted.specs.Causes.{RefusesFor};
+ghost use Rattle.cedar_gate_model.specs.Acceptance.{Submission};
 ghost use Rattle.cedar_gate_rules.specs.Policies.{policies_of};
 
 use crate::fault::GateFault;
@@ -25,7 +25,7 @@ pub fn check_names<S: ScopeSchema>(
     policies: &[Policy],
 ) -> Result<(), GateFault>
     ensures kept { (s : Submission) → IsSeenBy (S.schema schema.now) (policies_of policies.now) s → OnOk result (is_clear_of_all scope_causes s ≡ true) }
-    ensures refused { (s : Submission) → IsSeenBy (S.schema schema.now) (policies_of policies.now) s → has_schema s ≡ true → IfErr result (IsRefusedFor s) }
+    ensures refused { (s : Submission) → IsSeenBy (S.schema schema.now) (policies_of policies.now) s → RefusesFor s result }
 {
     scope_rules_are_alike();
     if !name_known_types(alloc, schema, policies)? {

@@ -3,7 +3,7 @@
 ghost use Rattle.std.specs.Prelude.{◌≡◌, ◌++◌, ◌∷◌, [], not, map, IfOk, OnOk};
 ghost use Rattle.std.specs.List.{filter};
 ghost use Rattle.cedar_gate_rules.specs.Policies.{policies_of};
-ghost use Rattle.cedar_gate_accepted.specs.Checked.{relevant_ids};
+ghost use Rattle.cedar_gate_accepted.specs.Checked.{relevant_ids, AddsIds};
 ghost use Rattle.cedar_gate_accepted.specs.Checks.{kind_asked};
 ghost use Rattle.cedar_store_parts.specs.Parts.{id_text};
 ghost use Rattle.cedar_store_policies.specs.Policies.{policy_of};
@@ -14,7 +14,7 @@ use cedar_store_policies::Policy;
 use cedar_typechecker_scopes::SchemaEnvironments;
 use std::alloc::{AllocError, Global};
 
-// Puts the policy's id behind those that were found, unless it is irrelevant for requests of these types.
+// Appends the policy's id to those that were found, unless it is irrelevant for requests of these types.
 fn add_relevant<S: SchemaEnvironments>(
     alloc: Global,
     schema: &S,
@@ -22,7 +22,7 @@ fn add_relevant<S: SchemaEnvironments>(
     policy: &Policy,
     found: &mut Vec<PolicyID>,
 ) -> Result<(), AllocError>
-    ensures { OnOk result (map id_text found.new.items ≡ map id_text found.old.items ++ relevant_ids (S.schema schema.now) (S.table schema.now) (kind_asked kind.now) (policy_of policy.now ∷ [])) }
+    ensures { OnOk result (AddsIds found.old found.new (relevant_ids (S.schema schema.now) (S.table schema.now) (kind_asked kind.now) (policy_of policy.now ∷ []))) }
 {
     if !is_irrelevant_for(alloc, schema, kind, policy)? {
         let id = policy.id().clone()?;

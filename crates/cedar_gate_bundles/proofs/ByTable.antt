@@ -14,14 +14,14 @@ use Rattle.cedar_expr_model.specs.Value.{V}
 use Rattle.cedar_store_model.specs.World as world
 use Rattle.cedar_evaluator_model.specs.Response.{PartialRequest}
 use Rattle.cedar_gate_model.specs.Acceptance.{Submission}
-use Rattle.cedar_gate_model.specs.Bundle.{Functions}
+use Rattle.cedar_evaluator_model.specs.Functions.{Functions, left_of_restricted}
 use Rattle.cedar_gate_model.specs.Reading.{given, required, optional, has_only, each, members_of}
 use Rattle.cedar_gate_model.specs.ReadingBundle.{is_bundle, submission_read, bundle_read}
 use Rattle.cedar_gate_model.specs.ReadingExpression.{second, expression_read}
 use Rattle.cedar_gate_model.specs.ReadingForms.{if_passing}
 use Rattle.cedar_gate_model.specs.ReadingName.{uid_read}
 use Rattle.cedar_gate_model.specs.ReadingRequest.{request_read, store_read, steps_read, binding_read}
-use Rattle.cedar_gate_model.specs.ReadingValue.{value_read, if_value, left_of_restricted}
+use Rattle.cedar_gate_model.specs.ReadingValue.{value_read, if_value}
 use Rattle.cedar_gate_model.specs.Transcript as run
 use Rattle.cedar_gate_expressions.proofs.Gathered.{then_rest}
 use Rattle.cedar_gate_expressions.specs.Maps.{under_text}

@@ -21,7 +21,7 @@ use Rattle.cedar_store_entities.specs.declared.entities.Entities.{Entities}
 use Rattle.cedar_store_entities.specs.declared.entity.Entity.{Entity}
 use Rattle.cedar_evaluator_model.specs.OfLaws.WellMade.{IsFoundMadeWell}
 use Rattle.cedar_gate_model.specs.Reading.{given, required, optional, has_only, each, list_of, members_of}
-use Rattle.cedar_gate_model.specs.Bundle.{Functions}
+use Rattle.cedar_evaluator_model.specs.Functions.{Functions}
 use Rattle.cedar_gate_model.specs.ReadingName.{uid_read}
 use Rattle.cedar_gate_model.specs.ReadingRequest.{with_uids, entity_read}
 use Rattle.cedar_gate_model.specs.ReadingValue.{value_read}

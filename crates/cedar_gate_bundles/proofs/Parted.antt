@@ -30,7 +30,7 @@ use Rattle.cedar_store_entities.specs.declared.entity.Entity.{Entity}
 use Rattle.cedar_evaluator_model.specs.Reauthorize.{context_from}
 use Rattle.cedar_evaluator_model.specs.Scope.{Left}
 use Rattle.cedar_gate_model.specs.Reading.{given, if_there, required, optional, has_only, list_of, members_of, each_member}
-use Rattle.cedar_gate_model.specs.Bundle.{Functions}
+use Rattle.cedar_evaluator_model.specs.Functions.{Functions}
 use Rattle.cedar_gate_model.specs.ReadingBundle.{bundle_read, input_read}
 use Rattle.cedar_gate_model.specs.ReadingForms.{if_passing}
 use Rattle.cedar_gate_model.specs.ReadingName.{uid_read}

@@ -24,13 +24,13 @@ use Rattle.cedar_evaluator_model.specs.Reauthorize.{context_from}
 use Rattle.cedar_evaluator_model.specs.Response.{PartialRequest}
 use Rattle.cedar_gate_model.specs.Reading.{given, required, optional, has_only, list_of, members_of}
 use Rattle.cedar_gate_model.specs.Acceptance.{Submission}
-use Rattle.cedar_gate_model.specs.Bundle.{Functions}
+use Rattle.cedar_evaluator_model.specs.Functions.{Functions, left_of_restricted}
 use Rattle.cedar_gate_model.specs.ReadingBundle.{is_bundle, submission_read, bundle_read}
 use Rattle.cedar_gate_model.specs.ReadingExpression.{second, fields_in}
 use Rattle.cedar_gate_model.specs.ReadingForms.{if_passing}
 use Rattle.cedar_gate_model.specs.ReadingName.{uid_read}
 use Rattle.cedar_gate_model.specs.ReadingRequest.{entity_read, store_read, request_read, steps_read}
-use Rattle.cedar_gate_model.specs.ReadingValue.{value_read, fields_context_read, left_of_restricted}
+use Rattle.cedar_gate_model.specs.ReadingValue.{value_read, fields_context_read}
 use Rattle.cedar_gate_expressions.specs.Maps.{under_text}
 use Rattle.cedar_gate_expressions.specs.declared.fault.ReadFault.{ReadFault}
 use Rattle.cedar_gate_expressions.specs.declared.fault.ReadFault.TheVariants.{Unreadable}

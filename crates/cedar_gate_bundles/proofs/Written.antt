@@ -18,16 +18,17 @@ use Rattle.cedar_evaluator_model.specs.Response.{PartialRequest}
 use Rattle.cedar_evaluator_model.specs.Scope.{Context, closed, residual_fields, unknown_context, Left, value_left, residual, stopped}
 use Rattle.cedar_evaluator_model.specs.OfLaws.WellMade.{IsWellMade, IsPartMadeWell, IsFoundMadeWell, IsContextMadeWell}
 use Rattle.cedar_gate_model.specs.Reading.{given, required, optional, has_only, each, list_of, each_member, members_of}
-use Rattle.cedar_gate_model.specs.Bundle.{Functions}
+use Rattle.cedar_evaluator_model.specs.Functions.{Functions, with_functions, left_of_restricted}
 use Rattle.cedar_gate_model.specs.ReadingExpression.{second, expression_read, fields_read}
 use Rattle.cedar_gate_model.specs.ReadingForms.{if_passing, word_of}
 use Rattle.cedar_gate_model.specs.ReadingName.{uid_read}
 use Rattle.cedar_gate_model.specs.ReadingRequest.{entry_read, request_read}
-use Rattle.cedar_gate_model.specs.ReadingValue.{with_functions, left_of_restricted, if_value, value_read, fields_context_read, context_read}
+use Rattle.cedar_gate_model.specs.ReadingValue.{if_value, value_read, fields_context_read, context_read}
 use Rattle.cedar_gate_model.specs.RunsAnswer.{MakeFairly}
 use Rattle.cedar_gate_model.proofs.Reading.Bundles.{there_has}
 use Rattle.cedar_gate_model.proofs.Reading.Steps.{given_some, map_some, passing_some, beside_all, given_gives, map_gives, if_gives}
-use Rattle.cedar_gate_model.proofs.Reading.Values.{none_is, first_some}
+use Rattle.cedar_evaluator_model.proofs.Restricted.{none_is}
+use Rattle.cedar_gate_model.proofs.Reading.Values.{first_some}
 use Rattle.cedar_gate_model.proofs.Runs.WellMade.{makes_well, evaluated_well}
 use Rattle.cedar_gate_expressions.specs.Maps.{under_text}
 use Rattle.cedar_gate_bundles.specs.Written.{known_made, entity_read_made, AreWritten}

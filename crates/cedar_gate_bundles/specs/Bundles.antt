@@ -6,7 +6,7 @@ use Rattle.cedar_store_policies.specs.Policies.{policy_of}
 use Rattle.cedar_gate_fragments.specs.Written.{declared_by}
 use Rattle.cedar_gate_model.specs.Acceptance as gate
 use Rattle.cedar_gate_model.specs.Bundle as model
-use Rattle.cedar_gate_model.specs.Bundle.{Functions}
+use Rattle.cedar_evaluator_model.specs.Functions.{Functions}
 use Rattle.cedar_evaluator_requests.specs.Views.{request_of}
 use Rattle.cedar_gate_rules.specs.Limit.{levels_of}
 use Rattle.cedar_gate_runs.specs.Steps.{steps_of}

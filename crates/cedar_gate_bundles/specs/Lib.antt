@@ -2,3 +2,4 @@ pub mod Values
 pub mod Written
 pub mod Bundles
 pub mod Policies
+pub mod Reading

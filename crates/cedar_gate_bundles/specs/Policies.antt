@@ -6,3 +6,7 @@ use Rattle.cedar_store_model.specs.Policy.{Effect, permit, forbid}
 
 abbrev pub effect_words : List (Text × Effect)
 effect_words = (codes "permit", permit) ∷ (codes "forbid", forbid) ∷ []
+
+-- the keys of a policy
+abbrev pub policy_keys : List Text
+policy_keys = codes "id" ∷ codes "effect" ∷ codes "principal" ∷ codes "action" ∷ codes "resource" ∷ codes "when" ∷ codes "link" ∷ []

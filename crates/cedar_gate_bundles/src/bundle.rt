@@ -3,8 +3,7 @@ ghost use Rattle.std.specs.Prelude.{◌≡◌, ◌≤◌, Some, None, IfOk, IfEr
 ghost use Rattle.serde_json.specs.View.{view};
 ghost use Rattle.cedar_gate_model.specs.ReadingForms.{number_between};
 ghost use Rattle.cedar_gate_model.specs.ReadingBundle.{is_bundle, version_read, submission_read, bundle_read, input_read};
-ghost use Rattle.cedar_gate_model.specs.Bundle.{Functions};
-ghost use Rattle.cedar_gate_model.specs.RunsAnswer.{AnswerFairly};
+ghost use Rattle.cedar_evaluator_model.specs.Functions.{Functions};
 ghost use Rattle.cedar_evaluator_restricted_exprs.specs.Answers.{AgreesWith};
 ghost use Rattle.cedar_evaluator_model.specs.OfLaws.WellMade.{IsContextMadeWell};
 ghost use Rattle.cedar_gate_bundles.specs.Bundles.{submission_of, bundle_of};
@@ -13,6 +12,7 @@ ghost use Rattle.cedar_gate_bundles.specs.Written.{IsStoreWritten};
 ghost use Rattle.cedar_gate_expressions.specs.Forms.{version_of};
 ghost use Rattle.cedar_gate_rules.specs.Limit.{levels_of};
 ghost use Rattle.cedar_gate_expressions.specs.declared.fault.ReadFault.TheVariants.{Unreadable};
+ghost use Rattle.cedar_gate_bundles.specs.Reading.{IsUnreadable, ByFairFunctions};
 
 use crate::lists::optional_list;
 use crate::policies::PolicyReader;
@@ -65,9 +65,9 @@ pub struct Bundle {
 #[tactic(auto, using(crate::proofs::Parted::of_input))]
 pub fn read_input(alloc: Global, table: &Extensions<'_>, bytes: &[u8]) -> Result<Bundle, ReadFault>
     ensures ok { IfOk result (λ b. (x : Functions) → AgreesWith table.now x → input_read x bytes.now ≡ Some (bundle_of x b)) }
-    ensures unreadable { IfErr result (λ f. f ≡ Unreadable → (x : Functions) → AgreesWith table.now x → input_read x bytes.now ≡ None) }
-    ensures context_written { IfOk result (λ b. (x : Functions) → AgreesWith table.now x → AnswerFairly x → IsContextMadeWell x.table (request_of b.request).context) }
-    ensures store_written { IfOk result (λ b. (x : Functions) → AgreesWith table.now x → AnswerFairly x → IsStoreWritten x.table b.store) }
+    ensures unreadable { IfErr result (λ f. IsUnreadable table.now (λ x. input_read x bytes.now) f) }
+    ensures context_written { IfOk result (λ b. ByFairFunctions table.now (λ x. IsContextMadeWell x.table (request_of b.request).context)) }
+    ensures store_written { IfOk result (λ b. ByFairFunctions table.now (λ x. IsStoreWritten x.table b.store)) }
 {
     let value = read_json(alloc, bytes)?;
     read_bundle(alloc, table, &value)
@@ -83,9 +83,9 @@ pub fn read_bundle(
     value: &Value,
 ) -> Result<Bundle, ReadFault>
     ensures ok { IfOk result (λ b. (x : Functions) → AgreesWith table.now x → bundle_read x (view value.now) ≡ Some (bundle_of x b)) }
-    ensures unreadable { IfErr result (λ f. f ≡ Unreadable → (x : Functions) → AgreesWith table.now x → bundle_read x (view value.now) ≡ None) }
-    ensures context_written { IfOk result (λ b. (x : Functions) → AgreesWith table.now x → AnswerFairly x → IsContextMadeWell x.table (request_of b.request).context) }
-    ensures store_written { IfOk result (λ b. (x : Functions) → AgreesWith table.now x → AnswerFairly x → IsStoreWritten x.table b.store) }
+    ensures unreadable { IfErr result (λ f. IsUnreadable table.now (λ x. bundle_read x (view value.now)) f) }
+    ensures context_written { IfOk result (λ b. ByFairFunctions table.now (λ x. IsContextMadeWell x.table (request_of b.request).context)) }
+    ensures store_written { IfOk result (λ b. ByFairFunctions table.now (λ x. IsStoreWritten x.table b.store)) }
 {
     if !is_bundle(value) {
         return Err(ReadFault::Unreadable);

@@ -1,13 +1,13 @@
 //! Lists and objects, read item by item, where what an item reads as depends on the functions of a table.
-ghost use Rattle.std.specs.Prelude.{◌≡◌, [], true, Option, Some, None, IfOk, IfErr, map};
+ghost use Rattle.std.specs.Prelude.{◌≡◌, true, Option, Some, None, IfOk, IfErr, map};
 ghost use Rattle.serde_json.specs.Data.{Data};
-ghost use Rattle.serde_json.specs.View.{view, items_view, members_view};
-ghost use Rattle.cedar_evaluator_restricted_exprs.specs.Answers.{AgreesWith};
+ghost use Rattle.serde_json.specs.View.{view, items_view};
 ghost use Rattle.cedar_expr_model.specs.Records.{names_rise};
-ghost use Rattle.cedar_gate_model.specs.Bundle.{Functions};
-ghost use Rattle.cedar_gate_model.specs.Reading.{each, list_of, members_of, each_member, optional};
-ghost use Rattle.cedar_gate_expressions.specs.Maps.{under_text, texts_seen};
+ghost use Rattle.cedar_evaluator_model.specs.Functions.{Functions};
+ghost use Rattle.cedar_gate_model.specs.Reading.{each, list_of};
+ghost use Rattle.cedar_gate_expressions.specs.Maps.{list_at, texts_at, texts_in, texts_of, texts_seen};
 ghost use Rattle.cedar_gate_expressions.specs.declared.fault.ReadFault.TheVariants.{Unreadable};
+ghost use Rattle.cedar_gate_bundles.specs.Reading.{ReadsAs, IsUnreadable};
 
 use cedar_expr_functions::Extensions;
 use cedar_gate_expressions::ReadFault;
@@ -34,8 +34,8 @@ pub(crate) trait ReaderByTable {
         table: &Extensions<'_>,
         value: &Value,
     ) -> Result<Self::Item, ReadFault>
-        ensures ok { IfOk result (λ v. (x : Functions) → AgreesWith table.now x → reading x (view value.now) ≡ Some (seen v)) }
-        ensures unreadable { IfErr result (λ f. f ≡ Unreadable → (x : Functions) → AgreesWith table.now x → reading x (view value.now) ≡ None) };
+        ensures ok { IfOk result (λ v. ReadsAs table.now (λ x. reading x (view value.now)) (seen v)) }
+        ensures unreadable { IfErr result (λ f. IsUnreadable table.now (λ x. reading x (view value.now)) f) };
 }
 
 // Reads each of these values, in their order. Refuses them where one of them has another form.
@@ -46,8 +46,8 @@ fn read_each<R: ReaderByTable>(
     table: &Extensions<'_>,
     items: &[Value],
 ) -> Result<Vec<R::Item>, ReadFault>
-    ensures ok { IfOk result (λ v. (x : Functions) → AgreesWith table.now x → each (R.reading x) (items_view items.now) ≡ Some (map R.seen v.items)) }
-    ensures unreadable { IfErr result (λ f. f ≡ Unreadable → (x : Functions) → AgreesWith table.now x → each (R.reading x) (items_view items.now) ≡ None) }
+    ensures ok { IfOk result (λ v. ReadsAs table.now (λ x. each (R.reading x) (items_view items.now)) (map R.seen v.items)) }
+    ensures unreadable { IfErr result (λ f. IsUnreadable table.now (λ x. each (R.reading x) (items_view items.now)) f) }
 {
     let mut list = Vec::with_capacity(alloc, items.len())?;
     for item in items {
@@ -63,8 +63,8 @@ pub(crate) fn read_list<R: ReaderByTable>(
     table: &Extensions<'_>,
     value: &Value,
 ) -> Result<Vec<R::Item>, ReadFault>
-    ensures ok { IfOk result (λ v. (x : Functions) → AgreesWith table.now x → list_of (R.reading x) (view value.now) ≡ Some (map R.seen v.items)) }
-    ensures unreadable { IfErr result (λ f. f ≡ Unreadable → (x : Functions) → AgreesWith table.now x → list_of (R.reading x) (view value.now) ≡ None) }
+    ensures ok { IfOk result (λ v. ReadsAs table.now (λ x. list_of (R.reading x) (view value.now)) (map R.seen v.items)) }
+    ensures unreadable { IfErr result (λ f. IsUnreadable table.now (λ x. list_of (R.reading x) (view value.now)) f) }
 {
     match value {
         Value::Array(items) => read_each(alloc, reader, table, items.as_slice()),
@@ -80,8 +80,8 @@ pub(crate) fn optional_list<R: ReaderByTable>(
     value: &Value,
     key: &str,
 ) -> Result<Vec<R::Item>, ReadFault>
-    ensures ok { IfOk result (λ v. (x : Functions) → AgreesWith table.now x → optional key.now (list_of (R.reading x)) [] (view value.now) ≡ Some (map R.seen v.items)) }
-    ensures unreadable { IfErr result (λ f. f ≡ Unreadable → (x : Functions) → AgreesWith table.now x → optional key.now (list_of (R.reading x)) [] (view value.now) ≡ None) }
+    ensures ok { IfOk result (λ v. ReadsAs table.now (λ x. list_at key.now (R.reading x) value.now) (map R.seen v.items)) }
+    ensures unreadable { IfErr result (λ f. IsUnreadable table.now (λ x. list_at key.now (R.reading x) value.now) f) }
 {
     match value.get(key) {
         None => Ok(Vec::new(alloc)),
@@ -98,9 +98,9 @@ pub(crate) fn optional_pairs<R: ReaderByTable>(
     value: &Value,
     key: &str,
 ) -> Result<Vec<(RcStr, R::Item)>, ReadFault>
-    ensures ok { IfOk result (λ v. (x : Functions) → AgreesWith table.now x → optional key.now (members_of (under_text (R.reading x))) [] (view value.now) ≡ Some (texts_seen R.seen v.items)) }
+    ensures ok { IfOk result (λ v. ReadsAs table.now (λ x. texts_at key.now (R.reading x) value.now) (texts_seen R.seen v.items)) }
     ensures rising { IfOk result (λ v. names_rise (texts_seen R.seen v.items) ≡ true) }
-    ensures unreadable { IfErr result (λ f. f ≡ Unreadable → (x : Functions) → AgreesWith table.now x → optional key.now (members_of (under_text (R.reading x))) [] (view value.now) ≡ None) }
+    ensures unreadable { IfErr result (λ f. IsUnreadable table.now (λ x. texts_at key.now (R.reading x) value.now) f) }
 {
     match value.get(key) {
         None => Ok(Vec::new(alloc)),
@@ -115,9 +115,9 @@ fn read_pairs<R: ReaderByTable>(
     table: &Extensions<'_>,
     value: &Value,
 ) -> Result<Vec<(RcStr, R::Item)>, ReadFault>
-    ensures ok { IfOk result (λ v. (x : Functions) → AgreesWith table.now x → members_of (under_text (R.reading x)) (view value.now) ≡ Some (texts_seen R.seen v.items)) }
+    ensures ok { IfOk result (λ v. ReadsAs table.now (λ x. texts_of (R.reading x) value.now) (texts_seen R.seen v.items)) }
     ensures rising { IfOk result (λ v. names_rise (texts_seen R.seen v.items) ≡ true) }
-    ensures unreadable { IfErr result (λ f. f ≡ Unreadable → (x : Functions) → AgreesWith table.now x → members_of (under_text (R.reading x)) (view value.now) ≡ None) }
+    ensures unreadable { IfErr result (λ f. IsUnreadable table.now (λ x. texts_of (R.reading x) value.now) f) }
 {
     match value {
         Value::Object(members) => read_each_pair(alloc, reader, table, members),
@@ -132,9 +132,9 @@ fn read_each_pair<R: ReaderByTable>(
     table: &Extensions<'_>,
     members: &Map<String, Value>,
 ) -> Result<Vec<(RcStr, R::Item)>, ReadFault>
-    ensures ok { IfOk result (λ v. (x : Functions) → AgreesWith table.now x → each_member (under_text (R.reading x)) (members_view members.now.entries) ≡ Some (texts_seen R.seen v.items)) }
+    ensures ok { IfOk result (λ v. ReadsAs table.now (λ x. texts_in (R.reading x) members.now.entries) (texts_seen R.seen v.items)) }
     ensures rising { IfOk result (λ v. names_rise (texts_seen R.seen v.items) ≡ true) }
-    ensures unreadable { IfErr result (λ f. f ≡ Unreadable → (x : Functions) → AgreesWith table.now x → each_member (under_text (R.reading x)) (members_view members.now.entries) ≡ None) }
+    ensures unreadable { IfErr result (λ f. IsUnreadable table.now (λ x. texts_in (R.reading x) members.now.entries) f) }
 {
     let mut made = Vec::with_capacity(alloc, members.len())?;
     for (key, member) in members.iter() {

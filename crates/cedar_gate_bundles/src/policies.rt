@@ -1,5 +1,5 @@
 //! Policies.
-ghost use Rattle.std.specs.Prelude.{◌≡◌, [], ◌∷◌, codes, Some, None, IfOk, IfErr};
+ghost use Rattle.std.specs.Prelude.{◌≡◌, [], Some, None, IfOk, IfErr};
 ghost use Rattle.serde_json.specs.View.{view};
 ghost use Rattle.cedar_store_model.specs.Policy as model;
 ghost use Rattle.cedar_store_model.specs.Policy.{permit, forbid};
@@ -8,7 +8,7 @@ ghost use Rattle.cedar_store_policies.specs.Policies.{policy_of};
 ghost use Rattle.cedar_gate_model.specs.Reading.{has_only};
 ghost use Rattle.cedar_gate_model.specs.ReadingForms.{word_of};
 ghost use Rattle.cedar_gate_model.specs.ReadingPolicy.{policy_read};
-ghost use Rattle.cedar_gate_bundles.specs.Policies.{effect_words};
+ghost use Rattle.cedar_gate_bundles.specs.Policies.{effect_words, policy_keys};
 ghost use Rattle.cedar_gate_expressions.specs.Forms.{version_of};
 ghost use Rattle.cedar_gate_expressions.specs.declared.fault.ReadFault.TheVariants.{Unreadable};
 
@@ -91,7 +91,7 @@ impl Reader for PolicyReader {
 
 // Whether the value has the keys of a policy alone.
 fn has_keys(value: &Value) -> bool
-    ensures { result ≡ has_only (codes "id" ∷ codes "effect" ∷ codes "principal" ∷ codes "action" ∷ codes "resource" ∷ codes "when" ∷ codes "link" ∷ []) (view value.now) }
+    ensures { result ≡ has_only policy_keys (view value.now) }
 {
     let keys = [
         "id",

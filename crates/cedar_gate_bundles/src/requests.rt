@@ -1,16 +1,12 @@
 //! Requests, of which parts may be unknown.
-ghost use Rattle.std.specs.Prelude.{◌≡◌, Some, None, IfOk, IfErr, codes};
+ghost use Rattle.std.specs.Prelude.{◌≡◌, Some, None, IfOk, IfErr};
 ghost use Rattle.serde_json.specs.Data.{object};
 ghost use Rattle.serde_json.specs.View.{view, members_view};
-ghost use Rattle.cedar_expr_model.specs.Made.{no_made_fields};
-ghost use Rattle.cedar_evaluator_model.specs.Scope.{closed};
 ghost use Rattle.cedar_evaluator_requests.specs.Views.{entry_of, context_of, context_or_unknown, request_of};
-ghost use Rattle.cedar_evaluator_restricted_exprs.specs.Answers.{AgreesWith};
-ghost use Rattle.cedar_gate_model.specs.Bundle.{Functions};
-ghost use Rattle.cedar_gate_model.specs.Reading.{optional};
 ghost use Rattle.cedar_gate_model.specs.ReadingRequest.{entry_read, request_read};
 ghost use Rattle.cedar_gate_model.specs.ReadingValue.{context_read, fields_context_read};
 ghost use Rattle.cedar_gate_expressions.specs.declared.fault.ReadFault.TheVariants.{Unreadable};
+ghost use Rattle.cedar_gate_bundles.specs.Reading.{ReadsAs, IsUnreadable, context_at};
 
 use crate::values::{evaluated, is_restricted};
 use cedar_evaluator_requests::{Context, EntityUIDEntry, Request};
@@ -31,8 +27,8 @@ pub(crate) fn read_request(
     table: &Extensions<'_>,
     value: &Value,
 ) -> Result<Request, ReadFault>
-    ensures ok { IfOk result (λ q. (x : Functions) → AgreesWith table.now x → request_read x (view value.now) ≡ Some (request_of q)) }
-    ensures unreadable { IfErr result (λ f. f ≡ Unreadable → (x : Functions) → AgreesWith table.now x → request_read x (view value.now) ≡ None) }
+    ensures ok { IfOk result (λ q. ReadsAs table.now (λ x. request_read x (view value.now)) (request_of q)) }
+    ensures unreadable { IfErr result (λ f. IsUnreadable table.now (λ x. request_read x (view value.now)) f) }
 {
     if !has_only(value, &["principal", "action", "resource", "context"]) {
         return Err(ReadFault::Unreadable);
@@ -78,8 +74,8 @@ fn optional_context(
     table: &Extensions<'_>,
     value: &Value,
 ) -> Result<Option<Context>, ReadFault>
-    ensures ok { IfOk result (λ c. (x : Functions) → AgreesWith table.now x → optional (codes "context") (context_read x) (closed no_made_fields) (view value.now) ≡ Some (context_or_unknown c)) }
-    ensures unreadable { IfErr result (λ f. f ≡ Unreadable → (x : Functions) → AgreesWith table.now x → optional (codes "context") (context_read x) (closed no_made_fields) (view value.now) ≡ None) }
+    ensures ok { IfOk result (λ c. ReadsAs table.now (λ x. context_at x value.now) (context_or_unknown c)) }
+    ensures unreadable { IfErr result (λ f. IsUnreadable table.now (λ x. context_at x value.now) f) }
 {
     match value.get("context") {
         None => Ok(Some(Context::Value(Record::empty(alloc)?))),
@@ -94,8 +90,8 @@ fn read_context(
     table: &Extensions<'_>,
     value: &Value,
 ) -> Result<Option<Context>, ReadFault>
-    ensures ok { IfOk result (λ c. (x : Functions) → AgreesWith table.now x → context_read x (view value.now) ≡ Some (context_or_unknown c)) }
-    ensures unreadable { IfErr result (λ f. f ≡ Unreadable → (x : Functions) → AgreesWith table.now x → context_read x (view value.now) ≡ None) }
+    ensures ok { IfOk result (λ c. ReadsAs table.now (λ x. context_read x (view value.now)) (context_or_unknown c)) }
+    ensures unreadable { IfErr result (λ f. IsUnreadable table.now (λ x. context_read x (view value.now)) f) }
 {
     match value {
         Value::String(word) => match word.as_str() {
@@ -115,8 +111,8 @@ fn context_in(
     table: &Extensions<'_>,
     members: &Map<String, Value>,
 ) -> Result<Context, ReadFault>
-    ensures ok { IfOk result (λ c. (x : Functions) → AgreesWith table.now x → fields_context_read x (object (members_view members.now.entries)) ≡ Some (context_of c)) }
-    ensures unreadable { IfErr result (λ f. f ≡ Unreadable → (x : Functions) → AgreesWith table.now x → fields_context_read x (object (members_view members.now.entries)) ≡ None) }
+    ensures ok { IfOk result (λ c. ReadsAs table.now (λ x. fields_context_read x (object (members_view members.now.entries))) (context_of c)) }
+    ensures unreadable { IfErr result (λ f. IsUnreadable table.now (λ x. fields_context_read x (object (members_view members.now.entries))) f) }
 {
     let fields = read_fields(alloc, Version::Second, members)?;
     let record = Expr::record_arc(Rc::new(alloc, fields)?);

@@ -22,7 +22,7 @@ use serde_json::Value;
 use std::alloc::Global;
 use std::rc::Rc;
 
-/// Reads what a policy asks of principal or resource: nothing, where the key lacks.
+/// Reads what a policy asks of principal or resource: nothing, where the key is missing.
 pub(crate) fn optional_scope(
     alloc: Global,
     value: &Value,
@@ -92,7 +92,7 @@ fn read_target(alloc: Global, value: &Value) -> Result<EntityReference, ReadFaul
     }
 }
 
-/// Reads what a policy asks of the action: nothing, where the key lacks.
+/// Reads what a policy asks of the action: nothing, where the key is missing.
 pub(crate) fn optional_action(alloc: Global, value: &Value) -> Result<ActionConstraint, ReadFault>
     ensures ok { IfOk result (λ s. optional (codes "action") action_scope_read any_action (view value.now) ≡ Some (action_scope_of s)) }
     ensures unreadable { IfErr result (λ f. f ≡ Unreadable → optional (codes "action") action_scope_read any_action (view value.now) ≡ None) }
@@ -120,7 +120,7 @@ fn read_action_scope(alloc: Global, value: &Value) -> Result<ActionConstraint, R
     Err(ReadFault::Unreadable)
 }
 
-/// Reads what the slots of a policy are bound to: nothing, where the key lacks.
+/// Reads what the slots of a policy are bound to: nothing, where the key is missing.
 pub(crate) fn optional_bindings(alloc: Global, value: &Value) -> Result<SlotEnv, ReadFault>
     ensures ok { IfOk result (λ b. optional (codes "link") bindings_read no_bindings (view value.now) ≡ Some (bindings_of b)) }
     ensures unreadable { IfErr result (λ f. f ≡ Unreadable → optional (codes "link") bindings_read no_bindings (view value.now) ≡ None) }

@@ -1,12 +1,11 @@
 //! The steps of a run.
-ghost use Rattle.std.specs.Prelude.{◌≡◌, Some, None, IfOk, IfErr};
+ghost use Rattle.std.specs.Prelude.{IfOk, IfErr};
 ghost use Rattle.serde_json.specs.View.{view};
-ghost use Rattle.cedar_evaluator_restricted_exprs.specs.Answers.{AgreesWith};
-ghost use Rattle.cedar_gate_model.specs.Bundle.{Functions};
 ghost use Rattle.cedar_gate_model.specs.Transcript as run;
 ghost use Rattle.cedar_gate_model.specs.ReadingRequest.{step_read, binding_read};
 ghost use Rattle.cedar_gate_runs.specs.Steps.{step_of};
 ghost use Rattle.cedar_gate_expressions.specs.declared.fault.ReadFault.TheVariants.{Unreadable};
+ghost use Rattle.cedar_gate_bundles.specs.Reading.{ReadsAs, IsUnreadable};
 
 use crate::lists::ReaderByTable;
 use crate::values::read_value;
@@ -51,8 +50,8 @@ impl ReaderByTable for Steps {
 
 // Reads a binding of a name to a value.
 fn read_binding(alloc: Global, table: &Extensions<'_>, value: &Value) -> Result<Step, ReadFault>
-    ensures ok { IfOk result (λ s. (x : Functions) → AgreesWith table.now x → binding_read x (view value.now) ≡ Some (step_of s)) }
-    ensures unreadable { IfErr result (λ f. f ≡ Unreadable → (x : Functions) → AgreesWith table.now x → binding_read x (view value.now) ≡ None) }
+    ensures ok { IfOk result (λ s. ReadsAs table.now (λ x. binding_read x (view value.now)) (step_of s)) }
+    ensures unreadable { IfErr result (λ f. IsUnreadable table.now (λ x. binding_read x (view value.now)) f) }
 {
     if !has_only(value, &["bind", "value"]) {
         return Err(ReadFault::Unreadable);

@@ -1,18 +1,16 @@
 //! The store of a bundle.
-ghost use Rattle.std.specs.Prelude.{◌≡◌, Some, None, IfOk, IfErr, map};
+ghost use Rattle.std.specs.Prelude.{IfOk, IfErr, map};
 ghost use Rattle.serde_json.specs.View.{view};
 ghost use Rattle.cedar_expr_model.specs.Uid.{Uid};
 ghost use Rattle.cedar_expr_model.specs.Made.{Made};
 ghost use Rattle.cedar_store_model.specs.World as world;
 ghost use Rattle.cedar_store_entities.specs.Stores.{store_seen};
 ghost use Rattle.cedar_store_entities.specs.Views.{entity_pair};
-ghost use Rattle.cedar_evaluator_restricted_exprs.specs.Answers.{AgreesWith};
-ghost use Rattle.cedar_gate_model.specs.Bundle.{Functions};
 ghost use Rattle.cedar_gate_model.specs.Reading.{list_of};
 ghost use Rattle.cedar_gate_model.specs.ReadingRequest.{entity_read, store_read};
-ghost use Rattle.cedar_gate_model.specs.RunsAnswer.{AnswerFairly};
 ghost use Rattle.cedar_gate_bundles.specs.Written.{entity_read_made, entity_pair_made, AreWritten, IsStoreWritten};
 ghost use Rattle.cedar_gate_expressions.specs.declared.fault.ReadFault.TheVariants.{Unreadable};
+ghost use Rattle.cedar_gate_bundles.specs.Reading.{ReadsAs, IsUnreadable, ByFairFunctions};
 
 use crate::lists::{ReaderByTable, optional_pairs, read_list};
 use crate::values::Values;
@@ -29,9 +27,9 @@ pub(crate) fn read_store(
     table: &Extensions<'_>,
     value: &Value,
 ) -> Result<Entities, ReadFault>
-    ensures ok { IfOk result (λ s. (x : Functions) → AgreesWith table.now x → store_read x (view value.now) ≡ Some (store_seen s).entities) }
-    ensures unreadable { IfErr result (λ f. f ≡ Unreadable → (x : Functions) → AgreesWith table.now x → store_read x (view value.now) ≡ None) }
-    ensures store_written { IfOk result (λ s. (x : Functions) → AgreesWith table.now x → AnswerFairly x → IsStoreWritten x.table s) }
+    ensures ok { IfOk result (λ s. ReadsAs table.now (λ x. store_read x (view value.now)) (store_seen s).entities) }
+    ensures unreadable { IfErr result (λ f. IsUnreadable table.now (λ x. store_read x (view value.now)) f) }
+    ensures store_written { IfOk result (λ s. ByFairFunctions table.now (λ x. IsStoreWritten x.table s)) }
 {
     let entities = read_entities(alloc, table, value)?;
     match Entities::from_entities(alloc, entities) {
@@ -47,9 +45,9 @@ fn read_entities(
     table: &Extensions<'_>,
     value: &Value,
 ) -> Result<Vec<Entity>, ReadFault>
-    ensures ok { IfOk result (λ es. (x : Functions) → AgreesWith table.now x → list_of (entity_read x) (view value.now) ≡ Some (map entity_pair es.items)) }
-    ensures unreadable { IfErr result (λ f. f ≡ Unreadable → (x : Functions) → AgreesWith table.now x → list_of (entity_read x) (view value.now) ≡ None) }
-    ensures written { IfOk result (λ es. (x : Functions) → AgreesWith table.now x → AnswerFairly x → AreWritten x.table (map entity_pair_made es.items)) }
+    ensures ok { IfOk result (λ es. ReadsAs table.now (λ x. list_of (entity_read x) (view value.now)) (map entity_pair es.items)) }
+    ensures unreadable { IfErr result (λ f. IsUnreadable table.now (λ x. list_of (entity_read x) (view value.now)) f) }
+    ensures written { IfOk result (λ es. ByFairFunctions table.now (λ x. AreWritten x.table (map entity_pair_made es.items))) }
 {
     read_list(alloc, &StoredEntities, table, value)
 }

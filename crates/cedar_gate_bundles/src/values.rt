@@ -1,5 +1,5 @@
 //! Values and contexts: restricted expressions, evaluated where they are read.
-ghost use Rattle.std.specs.Prelude.{◌≡◌, true, Some, None, IfOk, IfErr, is_none};
+ghost use Rattle.std.specs.Prelude.{◌≡◌, true, IfOk, IfErr, is_none};
 ghost use Rattle.serde_json.specs.View.{view};
 ghost use Rattle.cedar_evaluator_restricted_exprs.specs.Answers.{AgreesWith};
 ghost use Rattle.cedar_expr_model.specs.Made.{Made};
@@ -7,11 +7,11 @@ ghost use Rattle.cedar_expr_model.specs.Restricted.{is_restricted, feature_here}
 ghost use Rattle.cedar_expr_trees.specs.Trees.{tree_of};
 ghost use Rattle.cedar_expr_values.specs.Extensions.{extension_of};
 ghost use Rattle.cedar_expr_values.specs.Values.{made};
-ghost use Rattle.cedar_gate_model.specs.Bundle.{Functions};
-ghost use Rattle.cedar_gate_model.specs.ReadingValue.{left_of_restricted, value_read};
+ghost use Rattle.cedar_evaluator_model.specs.Functions.{Functions, left_of_restricted};
+ghost use Rattle.cedar_gate_model.specs.ReadingValue.{value_read};
 ghost use Rattle.cedar_evaluator_errors.specs.Outcomes.{left_seen};
-ghost use Rattle.cedar_gate_bundles.specs.Values.{IsStopped};
 ghost use Rattle.cedar_gate_expressions.specs.declared.fault.ReadFault.TheVariants.{Unreadable};
+ghost use Rattle.cedar_gate_bundles.specs.Reading.{ReadsAs, IsUnreadable, IsStoppedBy};
 
 use crate::lists::ReaderByTable;
 use cedar_evaluator_restricted_exprs::{RestrictedFault, evaluate};
@@ -32,7 +32,7 @@ pub(crate) fn evaluated(
 ) -> Result<PartialValue<ExtValue>, ReadFault>
     requires { is_restricted (tree_of e.now) ≡ true }
     ensures left { IfOk result (λ p. (x : Functions) → AgreesWith table.now x → left_of_restricted x (tree_of e.now) ≡ left_seen p) }
-    ensures stopped { IfErr result (λ f. f ≡ Unreadable → (x : Functions) → AgreesWith table.now x → IsStopped (left_of_restricted x (tree_of e.now))) }
+    ensures stopped { IfErr result (λ f. IsStoppedBy table.now (tree_of e.now) f) }
 {
     match evaluate(alloc, table, e) {
         Ok(left) => Ok(left),
@@ -85,8 +85,8 @@ pub(crate) fn read_value(
     table: &Extensions<'_>,
     value: &Value,
 ) -> Result<CedarValue<ExtValue>, ReadFault>
-    ensures ok { IfOk result (λ v. (x : Functions) → AgreesWith table.now x → value_read x (view value.now) ≡ Some (made extension_of v)) }
-    ensures unreadable { IfErr result (λ f. f ≡ Unreadable → (x : Functions) → AgreesWith table.now x → value_read x (view value.now) ≡ None) }
+    ensures ok { IfOk result (λ v. ReadsAs table.now (λ x. value_read x (view value.now)) (made extension_of v)) }
+    ensures unreadable { IfErr result (λ f. IsUnreadable table.now (λ x. value_read x (view value.now)) f) }
 {
     let e = read_expression(alloc, Version::Second, value)?;
     if !is_restricted(alloc, &e)? {

@@ -8,6 +8,7 @@ ghost use Rattle.cedar_schema_entries.specs.Views.{entity_type_seen, action_seen
 ghost use Rattle.cedar_schema_model.specs.Conforming.{of_kind, among_actions, ancestor};
 ghost use Rattle.cedar_store_entities.specs.Views.{entity_uid, entity_of};
 ghost use Rattle.cedar_typechecker_model.specs.Asked.{type_is_below, action_is_below};
+ghost use Rattle.cedar_gate_conforming.specs.Views.{fault_of_type};
 
 use crate::members::is_of_enumerated;
 use cedar_expr_names::{EntityType, EntityUID};
@@ -21,7 +22,7 @@ pub(crate) fn ancestors_are_wrong(
     ty: &ValidatorEntityType,
     entity: &Entity,
 ) -> bool
-    ensures { result ≡ kept_fault_at (schema_kept schema.now) (entity_uid entity.now) (entity_of entity.now) (of_kind (entity_type_seen ty.now).kind) ancestor }
+    ensures { result ≡ fault_of_type (schema_kept schema.now) entity.now ty.now ancestor }
 {
     has_wrong_ancestor(schema, ty, entity)
 }
@@ -89,7 +90,7 @@ fn is_action_below(schema: &ValidatorSchema, uid: &EntityUID, above: &EntityUID)
     }
 }
 
-// Whether the action as this entity lacks an ancestor that it is declared to descend from.
+// Whether an ancestor that the action is declared to descend from is missing from it as this entity.
 fn lacks_above(schema: &ValidatorSchema, entity: &Entity) -> bool
     ensures { result ≡ lacks_above (schema_kept schema.now) (entity_uid entity.now) among_actions (entity_of entity.now).ancestors }
 {

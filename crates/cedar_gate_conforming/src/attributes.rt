@@ -19,7 +19,7 @@ use cedar_store_entities::Entity;
 use std::collections::btree_map::Iter;
 use std::rc::RcStr;
 
-// Whether an attribute that is required lacks.
+// Whether an attribute that is required is missing.
 pub(crate) fn lacks_required(attributes: &Attributes, entity: &Entity) -> bool
     ensures { result ≡ lacks_required (attributes_of attributes.now) (entity_of entity.now).attributes }
 {

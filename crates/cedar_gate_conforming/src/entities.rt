@@ -5,11 +5,11 @@ ghost use Rattle.cedar_gate_model.specs.Alike.{ConformsAlike};
 ghost use Rattle.cedar_gate_model.specs.Asked.{kept_fault_at, kept_entity_fault};
 ghost use Rattle.cedar_gate_model.specs.First.{first_fault};
 ghost use Rattle.cedar_schema_built.specs.Views.{schema_kept};
-ghost use Rattle.cedar_schema_entries.specs.Views.{entity_type_seen};
-ghost use Rattle.cedar_schema_model.specs.Conforming.{of_kind, among_actions, has_entity_fault, EntityConforms};
+ghost use Rattle.cedar_schema_model.specs.Conforming.{among_actions, has_entity_fault, EntityConforms};
 ghost use Rattle.cedar_schema_model.specs.Schema.{Schema};
 ghost use Rattle.cedar_store_entities.specs.Views.{entity_uid, entity_of};
 ghost use Rattle.cedar_gate_conforming.specs.Faults.{IsFirst, IsThere, IsTold};
+ghost use Rattle.cedar_gate_conforming.specs.Views.{typed_fault, fault_of_type};
 
 use crate::ancestors::{action_ancestors_are_wrong, ancestors_are_wrong};
 use crate::attributes::{has_undeclared, has_wrong_value, holds_values, lacks_required};
@@ -81,14 +81,10 @@ fn has_tags(entity: &Entity) -> bool
     entity.tags_len() != 0
 }
 
-ghost use Rattle.std.specs.Option.{option_map_or};
-ghost use Rattle.cedar_schema_model.specs.Kept.{kept_type};
-ghost use Rattle.cedar_schema_model.specs.Conforming.{nowhere};
-
 // Checks whether an entity that is no action's conforms to what the schema keeps of its type. Errors: the first of its faults.
 fn check_typed(schema: &ValidatorSchema, entity: &Entity) -> Result<(), ConformFault>
-    ensures none { OnOk result (first_fault (kept_fault_at (schema_kept schema.now) (entity_uid entity.now) (entity_of entity.now) (option_map_or (λ t. of_kind t.kind) (kept_type (schema_kept schema.now) (entity_uid entity.now).kind) nowhere)) ≡ None) }
-    ensures first { IfErr result (IsFirst (kept_fault_at (schema_kept schema.now) (entity_uid entity.now) (entity_of entity.now) (option_map_or (λ t. of_kind t.kind) (kept_type (schema_kept schema.now) (entity_uid entity.now).kind) nowhere))) }
+    ensures none { OnOk result (first_fault (typed_fault (schema_kept schema.now) entity.now) ≡ None) }
+    ensures first { IfErr result (IsFirst (typed_fault (schema_kept schema.now) entity.now)) }
     ensures told { IfErr result IsTold }
 {
     match schema.get_entity_type(entity.uid().entity_type()) {
@@ -103,8 +99,8 @@ fn check_of_type(
     ty: &ValidatorEntityType,
     entity: &Entity,
 ) -> Result<(), ConformFault>
-    ensures none { OnOk result (first_fault (kept_fault_at (schema_kept schema.now) (entity_uid entity.now) (entity_of entity.now) (of_kind (entity_type_seen ty.now).kind)) ≡ None) }
-    ensures first { IfErr result (IsFirst (kept_fault_at (schema_kept schema.now) (entity_uid entity.now) (entity_of entity.now) (of_kind (entity_type_seen ty.now).kind))) }
+    ensures none { OnOk result (first_fault (fault_of_type (schema_kept schema.now) entity.now ty.now) ≡ None) }
+    ensures first { IfErr result (IsFirst (fault_of_type (schema_kept schema.now) entity.now ty.now)) }
     ensures told { IfErr result IsTold }
 {
     if is_no_member(ty, entity.uid()) {

@@ -18,7 +18,7 @@ pub enum ConformFault {
     /// The enumerated entity type doesn't have this member.
     #[error("not a member of an enumerated entity type")]
     NoMember,
-    /// A required attribute lacks.
+    /// A required attribute is missing.
     #[error("a required attribute is missing")]
     LacksAttribute,
     /// An attribute isn't declared.
@@ -30,7 +30,7 @@ pub enum ConformFault {
     /// There are tags where none may be, or the value of one isn't of their type.
     #[error("a tag is not allowed, or not of its type")]
     Tag,
-    /// An ancestor may not be one, or lacks.
+    /// An ancestor may not be one, or is missing.
     #[error("an ancestor is not allowed, or missing")]
     Ancestor,
     /// The context isn't of its type.

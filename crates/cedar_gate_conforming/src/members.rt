@@ -8,7 +8,7 @@ ghost use Rattle.cedar_schema_entries.specs.Kinds.{kind_with};
 ghost use Rattle.cedar_schema_entries.specs.Views.{entity_type_seen};
 ghost use Rattle.cedar_schema_model.specs.Conforming.{of_kind, is_no_member};
 ghost use Rattle.cedar_schema_model.specs.Types.{Attributes as ModelAttributes};
-ghost use Rattle.cedar_gate_conforming.specs.Views.{is_enumerated};
+ghost use Rattle.cedar_gate_conforming.specs.Views.{is_enumerated, place_of_type};
 
 use cedar_expr_names::{Eid, EntityUID};
 use cedar_schema_built::ValidatorSchema;
@@ -21,7 +21,7 @@ pub(crate) fn is_no_member(ty: &ValidatorEntityType, uid: &EntityUID) -> bool
     lacks_id(ty.kind(), uid.eid())
 }
 
-// Whether the kind is enumerated, and doesn't list the id.
+// Whether an entity type of this kind is enumerated, and doesn't list the id.
 fn lacks_id(kind: &ValidatorEntityTypeKind, id: &Eid) -> bool
     ensures { (as_ : ModelAttributes) → result ≡ is_no_member (of_kind (kind_with as_ kind.now)) (eid_text id.now) }
 {
@@ -38,7 +38,7 @@ pub(crate) fn is_of_enumerated(ty: &ValidatorEntityType) -> bool
     is_enumerated(ty.kind())
 }
 
-// Whether the kind is enumerated.
+// Whether an entity type of this kind is enumerated.
 fn is_enumerated(kind: &ValidatorEntityTypeKind) -> bool
     ensures { (as_ : ModelAttributes) → result ≡ is_enumerated (kind_with as_ kind.now) }
 {
@@ -58,13 +58,9 @@ pub(crate) fn is_no_kept_member(schema: &ValidatorSchema, uid: &EntityUID) -> bo
     }
 }
 
-ghost use Rattle.std.specs.Option.{option_map_or};
-ghost use Rattle.cedar_schema_model.specs.Kept.{kept_type};
-ghost use Rattle.cedar_schema_model.specs.Conforming.{nowhere};
-
 // Whether the uid, which is no action's, is of a type that is enumerated by the schema, and its entity is no member.
 fn is_no_typed_member(schema: &ValidatorSchema, uid: &EntityUID) -> bool
-    ensures { result ≡ is_no_member (option_map_or (λ t. of_kind t.kind) (kept_type (schema_kept schema.now) (uid_of uid.now).kind) nowhere) (uid_of uid.now).id }
+    ensures { result ≡ is_no_member (place_of_type (schema_kept schema.now) (uid_of uid.now).kind) (uid_of uid.now).id }
 {
     match schema.get_entity_type(uid.entity_type()) {
         Some(ty) => is_no_member(ty, uid),

@@ -13,7 +13,7 @@ ghost use Rattle.cedar_schema_model.specs.Kept.{kept_action};
 ghost use Rattle.cedar_schema_model.specs.Conforming.{where_known, is_not_listed, has_request_fault, RequestConforms};
 ghost use Rattle.cedar_schema_model.specs.Schema.{Schema};
 ghost use Rattle.cedar_gate_conforming.specs.Faults.{IsFirst, IsThere};
-ghost use Rattle.cedar_gate_conforming.specs.Views.{request_seen, action_asked};
+ghost use Rattle.cedar_gate_conforming.specs.Views.{request_seen, action_asked, names_no_kept_member};
 
 use crate::contexts::{is_open, is_wrong_context};
 use crate::faults::ConformFault;
@@ -129,7 +129,7 @@ fn refuses_resource(action: &ValidatorActionId, resource: &EntityUIDEntry) -> bo
 
 // Whether the principal or the resource is of an enumerated type, and no member.
 fn names_no_member(schema: &ValidatorSchema, request: &Request) -> bool
-    ensures { result ≡ (is_no_kept_member (schema_kept schema.now) (request_seen request.now).principal || is_no_kept_member (schema_kept schema.now) (request_seen request.now).resource) }
+    ensures { result ≡ names_no_kept_member (schema_kept schema.now) (request_seen request.now) }
 {
     is_no_entry_member(schema, request.principal())
         || is_no_entry_member(schema, request.resource())

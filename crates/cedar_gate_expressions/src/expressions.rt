@@ -1,20 +1,13 @@
 //! Expressions.
-ghost use Rattle.std.specs.Prelude.{◌≡◌, Some, None, IfOk, IfErr, OnOk, map, drop, string_bytes};
-ghost use Rattle.std.specs.BTreeMap.{insert_entry};
-ghost use Rattle.std.specs.Cmp.Lexicographic.{slice_cmp};
-ghost use Rattle.std.specs.Ordering.{nat_cmp};
-ghost use Rattle.std.specs.Rc.{rc_str_bytes};
-ghost use Rattle.std.specs.declared.alloc.Global.{Global};
-ghost use Rattle.std.specs.declared.rc.RcStr.{RcStr as Named};
+ghost use Rattle.std.specs.Prelude.{◌≡◌, Some, None, IfOk, IfErr, OnOk, map, string_bytes};
 ghost use Rattle.serde_json.specs.View.{view, members_view};
-ghost use Rattle.cedar_expr_model.specs.Lists.{all_given};
-ghost use Rattle.cedar_expr_model.specs.Builder.{tree_fields};
-ghost use Rattle.cedar_expr_trees.specs.Trees.{tree_of, named, field_trees};
+ghost use Rattle.cedar_expr_trees.specs.Trees.{tree_of};
 ghost use Rattle.cedar_gate_model.specs.ReadingExpression.{expression_read, fields_in, of_two, of_three, call_form};
 ghost use Rattle.cedar_gate_expressions.specs.Forms.{version_of, form_of, joint_of};
 ghost use Rattle.cedar_expr_model.specs.Tree.{choice};
 ghost use Rattle.cedar_gate_expressions.specs.declared.forms.Form.TheVariants.{OfTest, Record};
-ghost use Rattle.cedar_gate_expressions.specs.Parts.{parts};
+ghost use Rattle.cedar_gate_expressions.specs.Maps.{InsertsField};
+ghost use Rattle.cedar_gate_expressions.specs.Parts.{fields_made, parts, trees_from};
 ghost use Rattle.cedar_gate_expressions.specs.declared.fault.ReadFault.TheVariants.{Unreadable};
 
 use crate::finished::{join, test};
@@ -169,8 +162,8 @@ fn read_each_expression(
     items: &[Value],
     from: usize,
 ) -> Result<Vec<Expr>, ReadFault>
-    ensures ok { IfOk result (λ v. all_given (λ x. x.tree) (parts (version_of version) (drop from items.now)) ≡ Some (map tree_of v.items)) }
-    ensures unreadable { IfErr result (λ f. f ≡ Unreadable → all_given (λ x. x.tree) (parts (version_of version) (drop from items.now)) ≡ None) }
+    ensures ok { IfOk result (λ v. trees_from (version_of version) from items.now ≡ Some (map tree_of v.items)) }
+    ensures unreadable { IfErr result (λ f. f ≡ Unreadable → trees_from (version_of version) from items.now ≡ None) }
 {
     let mut list = Vec::new(alloc);
     for i in from..items.len() {
@@ -188,7 +181,7 @@ pub fn read_fields(
     version: Version,
     members: &Map<String, Value>,
 ) -> Result<BTreeMap<RcStr, Expr>, ReadFault>
-    ensures ok { IfOk result (λ m. fields_in (version_of version) (members_view members.now.entries) ≡ Some (tree_fields (named (field_trees m.entries)))) }
+    ensures ok { IfOk result (λ m. fields_in (version_of version) (members_view members.now.entries) ≡ Some (fields_made m.entries)) }
     ensures unreadable { IfErr result (λ f. f ≡ Unreadable → fields_in (version_of version) (members_view members.now.entries) ≡ None) }
 {
     let mut fields = BTreeMap::new(alloc);
@@ -200,14 +193,14 @@ pub fn read_fields(
     Ok(fields)
 }
 
-// Puts a field under this name.
+// Inserts a field under this name.
 fn add_field(
     alloc: Global,
     fields: &mut BTreeMap<RcStr, Expr>,
     key: &String,
     field: Expr,
 ) -> Result<(), AllocError>
-    ensures { OnOk result ((k : Named Global) × (rc_str_bytes k ≡ string_bytes key.now) × (fields.new.entries ≡ insert_entry (λ s t. slice_cmp nat_cmp (rc_str_bytes s) (rc_str_bytes t)) fields.old.entries k field)) }
+    ensures { OnOk result (InsertsField (string_bytes key.now) field fields.old.entries fields.new.entries) }
 {
     let name = RcStr::from_str(alloc, key.as_str())?;
     drop(fields.insert(name, field)?);

@@ -13,7 +13,7 @@ ghost use Rattle.cedar_expr_trees.specs.Trees.{tree_of};
 ghost use Rattle.cedar_gate_model.specs.Reading.{given, each};
 ghost use Rattle.cedar_gate_model.specs.ReadingExpression.{Version, pattern_read, elements_read};
 ghost use Rattle.cedar_gate_expressions.specs.Forms.{joint_of, test_rest};
-ghost use Rattle.cedar_gate_expressions.specs.Parts.{parts};
+ghost use Rattle.cedar_gate_expressions.specs.Parts.{AppendsRead, parts, path_read};
 ghost use Rattle.cedar_gate_expressions.specs.declared.fault.ReadFault.TheVariants.{Unreadable};
 
 use crate::forms::{Joint, Test};
@@ -89,9 +89,8 @@ fn test_of_one(alloc: Global, kind: Test, head: Expr, x: &Value) -> Result<Expr,
 
 // Whether a path of attributes is there.
 fn read_path(alloc: Global, head: Expr, name: &Value, rest: &[Value]) -> Result<Expr, ReadFault>
-    ensures ok { IfOk result (λ e. given (as_str (view name.now)) (λ a. option_map (path_test (tree_of head) a) (each as_str (items_view rest.now))) ≡ Some (tree_of e)) }
-    ensures unreadable { IfErr result (λ f. f ≡ Unreadable
-        → given (as_str (view name.now)) (λ a. option_map (path_test (tree_of head) a) (each as_str (items_view rest.now))) ≡ None) }
+    ensures ok { IfOk result (λ e. path_read (tree_of head) name.now rest.now ≡ Some (tree_of e)) }
+    ensures unreadable { IfErr result (λ f. f ≡ Unreadable → path_read (tree_of head) name.now rest.now ≡ None) }
 {
     let first = read_text(alloc, name)?;
     let tail = read_each(alloc, &Texts, rest)?;
@@ -124,7 +123,7 @@ fn read_elements(alloc: Global, items: &[Value]) -> Result<Vec<PatternElem>, Rea
 
 // Adds the elements that an item is.
 fn add_elements(elements: &mut Vec<PatternElem>, item: &Value) -> Result<(), ReadFault>
-    ensures ok { OnOk result (option_map (λ es. elements_of elements.old.items ++ es) (elements_read (view item.now)) ≡ Some (elements_of elements.new.items)) }
+    ensures ok { OnOk result (AppendsRead (elements_read (view item.now)) (elements_of elements.old.items) (elements_of elements.new.items)) }
     ensures unreadable { IfErr result (λ f. f ≡ Unreadable → elements_read (view item.now) ≡ None) }
 {
     match item {

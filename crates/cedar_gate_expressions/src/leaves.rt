@@ -13,7 +13,7 @@ ghost use Rattle.cedar_gate_model.specs.ReadingForms.{word_of, alone, read_as};
 ghost use Rattle.cedar_gate_model.specs.ReadingName.{plain_name_read, uid_from, annotation_read, core_words};
 ghost use Rattle.cedar_gate_model.specs.ReadingExpression.{Version as Read, var_words, slot_words, forms};
 ghost use Rattle.cedar_gate_expressions.specs.Forms.{version_of, leaf_form, form_of};
-ghost use Rattle.cedar_gate_expressions.specs.Parts.{parts};
+ghost use Rattle.cedar_gate_expressions.specs.Parts.{parts, unknown_read};
 ghost use Rattle.cedar_gate_expressions.specs.declared.fault.ReadFault.TheVariants.{Unreadable};
 
 use crate::forms::{Form, Leaf, Version, form_named};
@@ -132,9 +132,9 @@ fn read_entity(alloc: Global, kind: &Value, id: &Value) -> Result<Expr, ReadFaul
 
 // Reads the unknown of this name and this type.
 fn read_annotated(alloc: Global, name: &Value, kind: &Value) -> Result<Expr, ReadFault>
-    ensures ok { IfOk result (λ e. given (as_str (view name.now)) (λ n. option_map (λ a. unknown n (Some a)) (annotation_read (view kind.now)))
+    ensures ok { IfOk result (λ e. unknown_read name.now kind.now
         ≡ Some (tree_of e)) }
-    ensures unreadable { IfErr result (λ f. f ≡ Unreadable → given (as_str (view name.now)) (λ n. option_map (λ a. unknown n (Some a)) (annotation_read (view kind.now))) ≡ None) }
+    ensures unreadable { IfErr result (λ f. f ≡ Unreadable → unknown_read name.now kind.now ≡ None) }
 {
     let kind = read_annotation(alloc, kind)?;
     let name = read_text(alloc, name)?;

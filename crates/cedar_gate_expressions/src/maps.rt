@@ -1,8 +1,6 @@
 //! Objects, read into maps by their keys.
-ghost use Rattle.std.specs.Prelude.{◌≡◌, [], Some, None, IfOk, IfErr, map};
-ghost use Rattle.serde_json.specs.View.{view, members_view};
-ghost use Rattle.cedar_gate_model.specs.Reading.{members_of, each_member, optional};
-ghost use Rattle.cedar_gate_expressions.specs.Maps.{under_word, under_text, words_seen, texts_seen};
+ghost use Rattle.std.specs.Prelude.{◌≡◌, Some, None, IfOk, IfErr};
+ghost use Rattle.cedar_gate_expressions.specs.Maps.{texts_at, texts_in, texts_of, texts_seen, words_at, words_in, words_of, words_seen};
 ghost use Rattle.cedar_gate_expressions.specs.declared.fault.ReadFault.TheVariants.{Unreadable};
 
 use crate::fault::ReadFault;
@@ -13,7 +11,7 @@ use std::alloc::Global;
 use std::collections::BTreeMap;
 use std::rc::RcStr;
 
-/// Reads what stands under identifiers in the object at the key: nothing, where the key lacks. Refuses another key than an
+/// Reads what stands under identifiers in the object at the key: nothing, where the key is missing. Refuses another key than an
 /// identifier, and a member of another form.
 pub fn optional_words<R: Reader>(
     alloc: Global,
@@ -21,8 +19,8 @@ pub fn optional_words<R: Reader>(
     value: &Value,
     key: &str,
 ) -> Result<BTreeMap<Id, R::Item>, ReadFault>
-    ensures ok { IfOk result (λ m. optional key.now (members_of (under_word (R.reading reader.now))) [] (view value.now) ≡ Some (words_seen R.seen m.entries)) }
-    ensures unreadable { IfErr result (λ f. f ≡ Unreadable → optional key.now (members_of (under_word (R.reading reader.now))) [] (view value.now) ≡ None) }
+    ensures ok { IfOk result (λ m. words_at key.now (R.reading reader.now) value.now ≡ Some (words_seen R.seen m.entries)) }
+    ensures unreadable { IfErr result (λ f. f ≡ Unreadable → words_at key.now (R.reading reader.now) value.now ≡ None) }
 {
     match value.get(key) {
         None => Ok(BTreeMap::new(alloc)),
@@ -36,8 +34,8 @@ fn read_words<R: Reader>(
     reader: &R,
     value: &Value,
 ) -> Result<BTreeMap<Id, R::Item>, ReadFault>
-    ensures ok { IfOk result (λ m. members_of (under_word (R.reading reader.now)) (view value.now) ≡ Some (words_seen R.seen m.entries)) }
-    ensures unreadable { IfErr result (λ f. f ≡ Unreadable → members_of (under_word (R.reading reader.now)) (view value.now) ≡ None) }
+    ensures ok { IfOk result (λ m. words_of (R.reading reader.now) value.now ≡ Some (words_seen R.seen m.entries)) }
+    ensures unreadable { IfErr result (λ f. f ≡ Unreadable → words_of (R.reading reader.now) value.now ≡ None) }
 {
     match value {
         Value::Object(members) => read_each_word(alloc, reader, members),
@@ -51,8 +49,8 @@ fn read_each_word<R: Reader>(
     reader: &R,
     members: &Map<String, Value>,
 ) -> Result<BTreeMap<Id, R::Item>, ReadFault>
-    ensures ok { IfOk result (λ m. each_member (under_word (R.reading reader.now)) (members_view members.now.entries) ≡ Some (words_seen R.seen m.entries)) }
-    ensures unreadable { IfErr result (λ f. f ≡ Unreadable → each_member (under_word (R.reading reader.now)) (members_view members.now.entries) ≡ None) }
+    ensures ok { IfOk result (λ m. words_in (R.reading reader.now) members.now.entries ≡ Some (words_seen R.seen m.entries)) }
+    ensures unreadable { IfErr result (λ f. f ≡ Unreadable → words_in (R.reading reader.now) members.now.entries ≡ None) }
 {
     let mut made = BTreeMap::new(alloc);
     for (key, member) in members.iter() {
@@ -63,15 +61,15 @@ fn read_each_word<R: Reader>(
     Ok(made)
 }
 
-/// Reads what stands under any texts in the object at the key: nothing, where the key lacks. Refuses a member of another form.
+/// Reads what stands under any texts in the object at the key: nothing, where the key is missing. Refuses a member of another form.
 pub fn optional_texts<R: Reader>(
     alloc: Global,
     reader: &R,
     value: &Value,
     key: &str,
 ) -> Result<BTreeMap<RcStr, R::Item>, ReadFault>
-    ensures ok { IfOk result (λ m. optional key.now (members_of (under_text (R.reading reader.now))) [] (view value.now) ≡ Some (texts_seen R.seen m.entries)) }
-    ensures unreadable { IfErr result (λ f. f ≡ Unreadable → optional key.now (members_of (under_text (R.reading reader.now))) [] (view value.now) ≡ None) }
+    ensures ok { IfOk result (λ m. texts_at key.now (R.reading reader.now) value.now ≡ Some (texts_seen R.seen m.entries)) }
+    ensures unreadable { IfErr result (λ f. f ≡ Unreadable → texts_at key.now (R.reading reader.now) value.now ≡ None) }
 {
     match value.get(key) {
         None => Ok(BTreeMap::new(alloc)),
@@ -85,8 +83,8 @@ fn read_texts<R: Reader>(
     reader: &R,
     value: &Value,
 ) -> Result<BTreeMap<RcStr, R::Item>, ReadFault>
-    ensures ok { IfOk result (λ m. members_of (under_text (R.reading reader.now)) (view value.now) ≡ Some (texts_seen R.seen m.entries)) }
-    ensures unreadable { IfErr result (λ f. f ≡ Unreadable → members_of (under_text (R.reading reader.now)) (view value.now) ≡ None) }
+    ensures ok { IfOk result (λ m. texts_of (R.reading reader.now) value.now ≡ Some (texts_seen R.seen m.entries)) }
+    ensures unreadable { IfErr result (λ f. f ≡ Unreadable → texts_of (R.reading reader.now) value.now ≡ None) }
 {
     match value {
         Value::Object(members) => read_each_text(alloc, reader, members),
@@ -100,8 +98,8 @@ fn read_each_text<R: Reader>(
     reader: &R,
     members: &Map<String, Value>,
 ) -> Result<BTreeMap<RcStr, R::Item>, ReadFault>
-    ensures ok { IfOk result (λ m. each_member (under_text (R.reading reader.now)) (members_view members.now.entries) ≡ Some (texts_seen R.seen m.entries)) }
-    ensures unreadable { IfErr result (λ f. f ≡ Unreadable → each_member (under_text (R.reading reader.now)) (members_view members.now.entries) ≡ None) }
+    ensures ok { IfOk result (λ m. texts_in (R.reading reader.now) members.now.entries ≡ Some (texts_seen R.seen m.entries)) }
+    ensures unreadable { IfErr result (λ f. f ≡ Unreadable → texts_in (R.reading reader.now) members.now.entries ≡ None) }
 {
     let mut made = BTreeMap::new(alloc);
     for (key, member) in members.iter() {

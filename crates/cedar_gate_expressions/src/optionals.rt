@@ -1,8 +1,6 @@
-//! What stands at a key that may lack.
-ghost use Rattle.std.specs.Prelude.{◌≡◌, [], Some, None, IfOk, IfErr, map, option_map};
-ghost use Rattle.serde_json.specs.View.{view};
-ghost use Rattle.cedar_gate_model.specs.Reading.{optional, list_of};
-ghost use Rattle.cedar_gate_model.specs.ReadingForms.{read_as};
+//! What stands at a key that may be missing.
+ghost use Rattle.std.specs.Prelude.{◌≡◌, Some, None, IfOk, IfErr, map, option_map};
+ghost use Rattle.cedar_gate_expressions.specs.Maps.{list_at, value_at};
 ghost use Rattle.cedar_gate_expressions.specs.declared.fault.ReadFault.TheVariants.{Unreadable};
 
 use crate::fault::ReadFault;
@@ -17,8 +15,8 @@ pub fn optional<R: Reader>(
     value: &Value,
     key: &str,
 ) -> Result<Option<R::Item>, ReadFault>
-    ensures ok { IfOk result (λ o. optional key.now (read_as Some (R.reading reader.now)) None (view value.now) ≡ Some (option_map R.seen o)) }
-    ensures unreadable { IfErr result (λ f. f ≡ Unreadable → optional key.now (read_as Some (R.reading reader.now)) None (view value.now) ≡ None) }
+    ensures ok { IfOk result (λ o. value_at key.now (R.reading reader.now) value.now ≡ Some (option_map R.seen o)) }
+    ensures unreadable { IfErr result (λ f. f ≡ Unreadable → value_at key.now (R.reading reader.now) value.now ≡ None) }
 {
     match value.get(key) {
         None => Ok(None),
@@ -26,15 +24,15 @@ pub fn optional<R: Reader>(
     }
 }
 
-/// Reads the list at the key: an empty one, where the key lacks.
+/// Reads the list at the key: an empty one, where the key is missing.
 pub fn optional_list<R: Reader>(
     alloc: Global,
     reader: &R,
     value: &Value,
     key: &str,
 ) -> Result<Vec<R::Item>, ReadFault>
-    ensures ok { IfOk result (λ v. optional key.now (list_of (R.reading reader.now)) [] (view value.now) ≡ Some (map R.seen v.items)) }
-    ensures unreadable { IfErr result (λ f. f ≡ Unreadable → optional key.now (list_of (R.reading reader.now)) [] (view value.now) ≡ None) }
+    ensures ok { IfOk result (λ v. list_at key.now (R.reading reader.now) value.now ≡ Some (map R.seen v.items)) }
+    ensures unreadable { IfErr result (λ f. f ≡ Unreadable → list_at key.now (R.reading reader.now) value.now ≡ None) }
 {
     match value.get(key) {
         None => Ok(Vec::new(alloc)),

@@ -1,9 +1,7 @@
 //! Objects, read into pairs of a name and what stands under it.
-ghost use Rattle.std.specs.Prelude.{◌≡◌, [], true, Some, None, IfOk, IfErr, map};
-ghost use Rattle.serde_json.specs.View.{view, members_view};
+ghost use Rattle.std.specs.Prelude.{◌≡◌, true, Some, None, IfOk, IfErr};
 ghost use Rattle.cedar_expr_model.specs.Records.{names_rise};
-ghost use Rattle.cedar_gate_model.specs.Reading.{members_of, each_member, optional};
-ghost use Rattle.cedar_gate_expressions.specs.Maps.{under_text, texts_seen};
+ghost use Rattle.cedar_gate_expressions.specs.Maps.{texts_at, texts_in, texts_of, texts_seen};
 ghost use Rattle.cedar_gate_expressions.specs.declared.fault.ReadFault.TheVariants.{Unreadable};
 
 use crate::fault::ReadFault;
@@ -12,7 +10,7 @@ use serde_json::{Map, Value};
 use std::alloc::Global;
 use std::rc::RcStr;
 
-/// Reads what stands under any texts in the object at the key, in the order of the texts: nothing, where the key lacks.
+/// Reads what stands under any texts in the object at the key, in the order of the texts: nothing, where the key is missing.
 /// Refuses a member of another form.
 pub fn optional_pairs<R: Reader>(
     alloc: Global,
@@ -20,9 +18,9 @@ pub fn optional_pairs<R: Reader>(
     value: &Value,
     key: &str,
 ) -> Result<Vec<(RcStr, R::Item)>, ReadFault>
-    ensures ok { IfOk result (λ v. optional key.now (members_of (under_text (R.reading reader.now))) [] (view value.now) ≡ Some (texts_seen R.seen v.items)) }
+    ensures ok { IfOk result (λ v. texts_at key.now (R.reading reader.now) value.now ≡ Some (texts_seen R.seen v.items)) }
     ensures rising { IfOk result (λ v. names_rise (texts_seen R.seen v.items) ≡ true) }
-    ensures unreadable { IfErr result (λ f. f ≡ Unreadable → optional key.now (members_of (under_text (R.reading reader.now))) [] (view value.now) ≡ None) }
+    ensures unreadable { IfErr result (λ f. f ≡ Unreadable → texts_at key.now (R.reading reader.now) value.now ≡ None) }
 {
     match value.get(key) {
         None => Ok(Vec::new(alloc)),
@@ -36,9 +34,9 @@ fn read_pairs<R: Reader>(
     reader: &R,
     value: &Value,
 ) -> Result<Vec<(RcStr, R::Item)>, ReadFault>
-    ensures ok { IfOk result (λ v. members_of (under_text (R.reading reader.now)) (view value.now) ≡ Some (texts_seen R.seen v.items)) }
+    ensures ok { IfOk result (λ v. texts_of (R.reading reader.now) value.now ≡ Some (texts_seen R.seen v.items)) }
     ensures rising { IfOk result (λ v. names_rise (texts_seen R.seen v.items) ≡ true) }
-    ensures unreadable { IfErr result (λ f. f ≡ Unreadable → members_of (under_text (R.reading reader.now)) (view value.now) ≡ None) }
+    ensures unreadable { IfErr result (λ f. f ≡ Unreadable → texts_of (R.reading reader.now) value.now ≡ None) }
 {
     match value {
         Value::Object(members) => read_each_pair(alloc, reader, members),
@@ -52,9 +50,9 @@ fn read_each_pair<R: Reader>(
     reader: &R,
     members: &Map<String, Value>,
 ) -> Result<Vec<(RcStr, R::Item)>, ReadFault>
-    ensures ok { IfOk result (λ v. each_member (under_text (R.reading reader.now)) (members_view members.now.entries) ≡ Some (texts_seen R.seen v.items)) }
+    ensures ok { IfOk result (λ v. texts_in (R.reading reader.now) members.now.entries ≡ Some (texts_seen R.seen v.items)) }
     ensures rising { IfOk result (λ v. names_rise (texts_seen R.seen v.items) ≡ true) }
-    ensures unreadable { IfErr result (λ f. f ≡ Unreadable → each_member (under_text (R.reading reader.now)) (members_view members.now.entries) ≡ None) }
+    ensures unreadable { IfErr result (λ f. f ≡ Unreadable → texts_in (R.reading reader.now) members.now.entries ≡ None) }
 {
     let mut made = Vec::with_capacity(alloc, members.len())?;
     for (key, member) in members.iter() {

@@ -1,4 +1,4 @@
-//! Lists of so many items: a cycle of calls tells them by these functions, so that each of its own is proved by what a list is and not
+//! Lists of so many items: a cycle of calls recognizes them by these functions, so that each of its own is proved by what a list is and not
 //! by how long it is.
 
 ghost use Rattle.std.specs.Prelude.{◌≡◌, [], ◌∷◌, None, IfSome, IfNone};

@@ -1,9 +1,15 @@
 -- What the code's types are as the model's, and the forms in which they are read.
 -- Rule: what a bundle reads as; declarations (docs/RULES.md).
-use Rattle.std.specs.Prelude.{Bool, true, false, [], ◌∷◌, codes, if◌then◌else◌, Option, Some, None, option_map}
+use Rattle.std.specs.Prelude.{Bool, true, false, [], ◌∷◌, codes, if◌then◌else◌, Option, Some, None, option_map, ◌≡◌, List}
+use Rattle.std.specs.BTreeMap.{insert_entry}
+use Rattle.std.specs.Cmp.Lexicographic.{slice_cmp}
 use Rattle.std.specs.Option.{option_or}
 use Rattle.std.specs.Map.{lookup}
+use Rattle.std.specs.Ordering.{nat_cmp}
+use Rattle.std.specs.Rc.{rc_str_bytes}
 use Rattle.std.specs.Str.{bytes_eq}
+use Rattle.std.specs.declared.alloc.Global.{Global}
+use Rattle.std.specs.declared.rc.RcStr.{RcStr}
 use Rattle.serde_json.specs.Data.{Data, null, boolean, number, string, array, object, Members, no_members, member}
 use Rattle.cedar_expr_model.specs.Name.{Text}
 use Rattle.cedar_expr_leaves.specs.Views.{raw_name_of}
@@ -72,3 +78,7 @@ attribute_read d = option_or (option_map required_type (type_read d)) (option_ma
 
 abbrev pub attribute_in : Members → Option (TypeExpr × Bool)
 attribute_in ms = attribute_read (object ms)
+
+-- To the attributes, by their names, one is added under this name.
+abbrev pub AddsNamed : {A : Type 0} → Text → A → List (RcStr Global × A) → List (RcStr Global × A) → Type 0
+AddsNamed {A} name a old new = (k : RcStr Global) × (rc_str_bytes k ≡ name) × (new ≡ insert_entry (λ s t. slice_cmp nat_cmp (rc_str_bytes s) (rc_str_bytes t)) old k a)

@@ -1,6 +1,6 @@
 -- What the code's declarations are as the model's; and what is read in a namespace, apart from its name.
 -- Rule: what a bundle reads as; declarations (docs/RULES.md).
-use Rattle.std.specs.Prelude.{List, [], ◌∷◌, ◌++◌, map, not, Bool, false, codes, Option, option_map}
+use Rattle.std.specs.Prelude.{◌≡◌, List, [], ◌∷◌, ◌++◌, map, not, Bool, false, codes, Option, Some, option_map}
 use Rattle.std.specs.List.{flat_map}
 use Rattle.std.specs.Rc.{rc_str_bytes}
 use Rattle.std.specs.declared.alloc.Global.{Global}
@@ -120,3 +120,7 @@ declared_by fs = declarations_of (flat_map written_fragment fs)
 -- two of them together
 abbrev pub joined : Declarations → Declarations → Declarations
 joined a b = record { commons = a.commons ++ b.commons; entities = a.entities ++ b.entities; actions = a.actions ++ b.actions }
+
+-- To what the fragments declare this is joined, if it is read.
+abbrev pub AddsDeclared : List (Fragment RawName) → List (Fragment RawName) → Option Declarations → Type 0
+AddsDeclared old new d = option_map (joined (declared_by old)) d ≡ Some (declared_by new)

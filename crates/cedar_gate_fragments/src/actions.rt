@@ -46,7 +46,7 @@ pub(crate) fn read_action(alloc: Global, value: &Value) -> Result<ActionType<Raw
     })
 }
 
-// Reads the type of an action's context: that of records without fields, where it lacks.
+// Reads the type of an action's context: that of records without fields, where it is missing.
 fn read_context(alloc: Global, value: &Value) -> Result<Type<RawName>, ReadFault>
     ensures ok { IfOk result (λ t. optional (codes "context") type_read (record_expr no_field_exprs) (view value.now) ≡ Some (type_seen t)) }
     ensures unreadable { IfErr result (λ f. f ≡ Unreadable → optional (codes "context") type_read (record_expr no_field_exprs) (view value.now) ≡ None) }

@@ -59,7 +59,7 @@ fn read_standard(alloc: Global, value: &Value) -> Result<EntityTypeKind<RawName>
     })
 }
 
-// Reads the attributes of an entity type: none, where they lack.
+// Reads the attributes of an entity type: none, where they are missing.
 fn optional_attributes(alloc: Global, value: &Value) -> Result<RecordType<RawName>, ReadFault>
     ensures ok { IfOk result (λ r. optional (codes "attrs") attributes_read no_field_exprs (view value.now) ≡ Some (fields_seen r)) }
     ensures unreadable { IfErr result (λ f. f ≡ Unreadable → optional (codes "attrs") attributes_read no_field_exprs (view value.now) ≡ None) }

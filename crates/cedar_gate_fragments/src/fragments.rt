@@ -4,7 +4,7 @@ ghost use Rattle.serde_json.specs.View.{view, items_view, members_view};
 ghost use Rattle.cedar_gate_model.specs.Reading.{each, each_member};
 ghost use Rattle.cedar_gate_model.specs.ReadingSchema.{namespace_named, namespace_read, fragment_read, schema_read};
 ghost use Rattle.cedar_schema_model.specs.Declarations.{bag};
-ghost use Rattle.cedar_gate_fragments.specs.Written.{space_seen, definition_read, definition_seen, declared_in_fragment, declared_by, joined};
+ghost use Rattle.cedar_gate_fragments.specs.Written.{space_seen, definition_read, definition_seen, declared_in_fragment, declared_by, AddsDeclared};
 ghost use Rattle.cedar_gate_expressions.specs.declared.fault.ReadFault.TheVariants.{Unreadable};
 
 use crate::actions::Actions;
@@ -22,7 +22,7 @@ use std::collections::BTreeMap;
 /// order of the list and of the keys; what is declared is the same however it is split.
 ///
 /// # Errors
-/// The value is no schema, or memory is wanting.
+/// The value is no schema, or out of memory.
 pub fn read_schema(alloc: Global, value: &Value) -> Result<Vec<Fragment<RawName>>, ReadFault>
     ensures ok { IfOk result (λ v. schema_read (view value.now) ≡ Some (declared_by v.items)) }
     ensures unreadable { IfErr result (λ f. f ≡ Unreadable → schema_read (view value.now) ≡ None) }
@@ -52,7 +52,7 @@ fn add_fragment(
     fragments: &mut Vec<Fragment<RawName>>,
     value: &Value,
 ) -> Result<(), ReadFault>
-    ensures ok { OnOk result (option_map (joined (declared_by fragments.old.items)) (fragment_read (view value.now)) ≡ Some (declared_by fragments.new.items)) }
+    ensures ok { OnOk result (AddsDeclared fragments.old.items fragments.new.items (fragment_read (view value.now))) }
     ensures unreadable { IfErr result (λ f. f ≡ Unreadable → fragment_read (view value.now) ≡ None) }
 {
     match value {
@@ -68,7 +68,7 @@ fn add_namespaces(
     fragments: &mut Vec<Fragment<RawName>>,
     members: &Map<String, Value>,
 ) -> Result<(), ReadFault>
-    ensures ok { OnOk result (option_map (joined (declared_by fragments.old.items)) (option_map bag (each_member namespace_read (members_view members.now.entries))) ≡ Some (declared_by fragments.new.items)) }
+    ensures ok { OnOk result (AddsDeclared fragments.old.items fragments.new.items (option_map bag (each_member namespace_read (members_view members.now.entries)))) }
     ensures unreadable { IfErr result (λ f. f ≡ Unreadable → each_member namespace_read (members_view members.now.entries) ≡ None) }
 {
     for (key, member) in members.iter() {

@@ -1,20 +1,15 @@
 //! Types, as they are written in a schema.
 ghost use Rattle.std.specs.Prelude.{◌≡◌, Option, Some, None, IfOk, IfErr, OnOk, option_map, string_bytes};
-ghost use Rattle.std.specs.BTreeMap.{insert_entry};
-ghost use Rattle.std.specs.Cmp.Lexicographic.{slice_cmp};
 ghost use Rattle.std.specs.Map.{lookup};
-ghost use Rattle.std.specs.Ordering.{nat_cmp};
-ghost use Rattle.std.specs.Rc.{rc_str_bytes};
 ghost use Rattle.std.specs.Str.{bytes_eq};
 ghost use Rattle.std.specs.declared.alloc.Global.{Global};
-ghost use Rattle.std.specs.declared.rc.RcStr.{RcStr as Named};
 ghost use Rattle.serde_json.specs.View.{view, members_view};
 ghost use Rattle.cedar_expr_leaves.specs.Views.{raw_name_of};
 ghost use Rattle.cedar_schema_model.specs.Declarations.{TypeExpr};
 ghost use Rattle.cedar_schema_decl.specs.Laws.{as_exprs};
 ghost use Rattle.cedar_schema_decl.specs.Trees.{in_a_row, attribute_rows};
 ghost use Rattle.cedar_gate_model.specs.ReadingSchema.{type_read, type_in, attributes_read, attributes_in, type_forms};
-ghost use Rattle.cedar_gate_fragments.specs.Types.{type_seen, fields_seen, attribute_seen, attribute_read, attribute_in, type_part, form_of, leaf_read, word_read, variant_seen};
+ghost use Rattle.cedar_gate_fragments.specs.Types.{type_seen, fields_seen, attribute_seen, attribute_read, attribute_in, type_part, form_of, leaf_read, word_read, variant_seen, AddsNamed};
 ghost use Rattle.cedar_gate_expressions.specs.declared.fault.ReadFault.TheVariants.{Unreadable};
 
 use crate::members::{members_of, next_member, only_member};
@@ -146,7 +141,7 @@ fn add_attribute(
     key: &String,
     attribute: TypeOfAttribute<RawName>,
 ) -> Result<(), AllocError>
-    ensures { OnOk result ((k : Named Global) × (rc_str_bytes k ≡ string_bytes key.now) × (attributes.new.entries ≡ insert_entry (λ s t. slice_cmp nat_cmp (rc_str_bytes s) (rc_str_bytes t)) attributes.old.entries k attribute)) }
+    ensures { OnOk result (AddsNamed (string_bytes key.now) attribute attributes.old.entries attributes.new.entries) }
 {
     let name = RcStr::from_str(alloc, key.as_str())?;
     drop(attributes.insert(name, attribute)?);

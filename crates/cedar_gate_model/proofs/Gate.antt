@@ -1,5 +1,4 @@
 pub mod Accepting
-pub mod Mentions
 pub mod Slices
 pub mod Reach
 pub mod ReachWorked

@@ -7,7 +7,8 @@ use Rattle.cedar_expr_model.specs.Name.{Text}
 use Rattle.cedar_store_model.specs.Answer.{Answer}
 use Rattle.cedar_gate_model.specs.Reading.{given}
 use Rattle.cedar_gate_model.specs.Acceptance.{IsAccepted}
-use Rattle.cedar_gate_model.specs.Bundle.{Functions, Bundle}
+use Rattle.cedar_evaluator_model.specs.Functions.{Functions}
+use Rattle.cedar_gate_model.specs.Bundle.{Bundle}
 use Rattle.cedar_gate_model.specs.Lines.{Status, is_answered, is_refused, is_unreadable, is_stopped, PrintsRun, Prints}
 use Rattle.cedar_gate_model.specs.ReadingBundle.{input_read, bundle_read}
 use Rattle.cedar_gate_model.specs.Runs.{End, answered, opening_refused, supply_refused, binding_refused, answer_refused}

@@ -18,7 +18,7 @@ use Rattle.cedar_typechecker_model.specs.ScopeRules.{NamesKnownTypes, NamesKnown
 use Rattle.cedar_typechecker_model.specs.Levels.{Violation}
 use Rattle.cedar_typechecker_model.specs.Verdicts.{RequestType, Passes, IsImpossible, IsIrrelevant, policy_violations}
 use Rattle.cedar_gate_model.specs.Acceptance.{Submission, Cause, IsAccepted, HasFault, extension_types, schema_in, warnings_of, policies_for, external, repeated_policy, unlinked_slot, slot_outside_scope, is_clear_of, unknown_in_policy, nests_too_deep, unknown_entity_type, unknown_action, no_member, ill_typed, reaches_too_far}
-use Rattle.cedar_gate_model.specs.Slice.{IsNear, near, InSlice, slice}
+use Rattle.cedar_typechecker_model.specs.Slice.{IsNear, near, InSlice, slice}
 use Rattle.cedar_evaluator_model.specs.Response.{PartialRequest}
 use Rattle.cedar_gate_model.specs.Moment.{Moment, at_first, entry_known, context_known}
 use Rattle.cedar_gate_model.specs.Transcript.{Case, Entry, round, decided, AreLegal, IsWanted, after, bound}

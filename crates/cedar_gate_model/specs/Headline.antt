@@ -8,7 +8,8 @@ use Rattle.cedar_store_model.specs.World.{World}
 use Rattle.cedar_schema_model.specs.BagLaws.{HasTwice}
 use Rattle.cedar_typechecker_model.specs.Soundness.{IsExpected}
 use Rattle.cedar_gate_model.specs.Acceptance.{IsAccepted, Cause, HasFault, number_of}
-use Rattle.cedar_gate_model.specs.Bundle.{Functions, Bundle}
+use Rattle.cedar_evaluator_model.specs.Functions.{Functions}
+use Rattle.cedar_gate_model.specs.Bundle.{Bundle}
 use Rattle.cedar_gate_model.specs.GateLaws.{asked_in, last_rounds}
 use Rattle.cedar_gate_model.specs.Lines.{Status, is_answered, is_refused, is_unreadable, is_stopped, end_status, run_lines, refused_line, unreadable_line, Prints}
 use Rattle.cedar_gate_model.specs.ReadingBundle.{input_read}
@@ -17,7 +18,7 @@ use Rattle.cedar_gate_model.specs.Runs.{End, answered, opening_refused, supply_r
 use Rattle.cedar_gate_model.specs.RunsAnswer.{Course, session_of, course_of, IsProper, IsRun, MakeFairly, IsReady, end_world}
 use Rattle.cedar_gate_model.specs.RunsAsk.{end_state}
 use Rattle.cedar_gate_model.specs.Session.{world_now, CompletesNow}
-use Rattle.cedar_gate_model.specs.Slice.{InSlice}
+use Rattle.cedar_typechecker_model.specs.Slice.{InSlice}
 use Rattle.cedar_gate_model.specs.Transcript.{Entry, decided, IsLegal}
 
 -- The uid lies fewer steps away from the request than the level says, over the whole store, by what was bound at the end of the run.

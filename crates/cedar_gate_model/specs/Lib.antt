@@ -1,5 +1,4 @@
 pub mod Reading
-pub mod Slice
 pub mod Moment
 pub mod Transcript
 pub mod Owed

@@ -11,7 +11,8 @@ use Rattle.cedar_gate_model.specs.Acceptance.{Submission, Cause, HasFault, IsAcc
 use Rattle.cedar_gate_model.specs.Session.{Setup, open_number, bind_number, supply_number, answer_number}
 use Rattle.cedar_gate_model.specs.Transcript.{Entry, round, bound, decided}
 use Rattle.cedar_gate_model.specs.Runs.{End, answered, opening_refused, supply_refused, binding_refused, answer_refused, DecidesInPart, Runs}
-use Rattle.cedar_gate_model.specs.Bundle.{Functions, Bundle}
+use Rattle.cedar_evaluator_model.specs.Functions.{Functions}
+use Rattle.cedar_gate_model.specs.Bundle.{Bundle}
 use Rattle.std.specs.Option.{option_map_or}
 use Rattle.std.specs.Map.{lookup}
 

@@ -17,7 +17,7 @@ use Rattle.cedar_schema_model.specs.Schema.{Schema, declares_action}
 use Rattle.cedar_schema_model.specs.ActionEntities.{as_entity}
 use Rattle.cedar_schema_model.specs.Conforming.{EntityConforms, RequestConforms}
 use Rattle.cedar_evaluator_model.specs.Scope.{Entry, uid, unknown_uid, Context, closed, residual_fields, unknown_context}
-use Rattle.cedar_gate_model.specs.Slice.{InSlice}
+use Rattle.cedar_typechecker_model.specs.Slice.{InSlice}
 use Rattle.cedar_evaluator_model.specs.Response.{PartialRequest}
 use Rattle.cedar_evaluator_model.specs.Completion.{PartIs}
 use Rattle.cedar_store_model.specs.Store.{OpenRequest, unloaded}

@@ -6,7 +6,8 @@ use Rattle.serde_json.specs.Data.{Data}
 use Rattle.serde_json.specs.Read.{read}
 use Rattle.cedar_gate_model.specs.Reading.{given, required, has_only, list_of}
 use Rattle.cedar_gate_model.specs.Acceptance.{Submission}
-use Rattle.cedar_gate_model.specs.Bundle.{Functions, Bundle}
+use Rattle.cedar_evaluator_model.specs.Functions.{Functions}
+use Rattle.cedar_gate_model.specs.Bundle.{Bundle}
 use Rattle.cedar_gate_model.specs.ReadingForms.{first_form, number_between, is_number}
 use Rattle.cedar_gate_model.specs.ReadingSchema.{schema_read}
 use Rattle.cedar_gate_model.specs.ReadingExpression.{Version, first, second}

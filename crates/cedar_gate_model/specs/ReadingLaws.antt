@@ -16,7 +16,8 @@ use Rattle.cedar_store_model.specs.Knowledge.{holds_values}
 use Rattle.cedar_store_model.specs.Policy.{tree_uses}
 use Rattle.cedar_schema_model.specs.BagLaws.{HasTwice}
 use Rattle.cedar_evaluator_model.specs.Scope.{residual_fields}
-use Rattle.cedar_gate_model.specs.Bundle.{Functions, Bundle}
+use Rattle.cedar_evaluator_model.specs.Functions.{Functions}
+use Rattle.cedar_gate_model.specs.Bundle.{Bundle}
 use Rattle.cedar_gate_model.specs.ReadingExpression.{Version, second, expression_read}
 use Rattle.cedar_gate_model.specs.ReadingValue.{value_read, context_read}
 use Rattle.cedar_gate_model.specs.ReadingBundle.{bundle_read}

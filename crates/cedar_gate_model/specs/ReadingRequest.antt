@@ -12,7 +12,7 @@ use Rattle.cedar_expr_model.specs.ValueParts.{Part, known}
 use Rattle.cedar_store_model.specs.World.{Entity}
 use Rattle.cedar_evaluator_model.specs.Scope.{Entry, uid, unknown_uid, closed}
 use Rattle.cedar_gate_model.specs.Reading.{given, required, optional, has_only, list_of, members_of}
-use Rattle.cedar_gate_model.specs.Bundle.{Functions}
+use Rattle.cedar_evaluator_model.specs.Functions.{Functions}
 use Rattle.cedar_gate_model.specs.Transcript.{Step, load, bind_name, decide}
 use Rattle.cedar_gate_model.specs.ReadingForms.{word_of, first_form, alone, if_passing, read_as}
 use Rattle.cedar_gate_model.specs.ReadingName.{plain_name_read, uid_read}

@@ -3,34 +3,15 @@
 -- Rule: what a bundle reads as; restricted expressions (docs/RULES.md).
 use Rattle.std.specs.Prelude.{[], ◌∷◌, codes, Option, Some, None}
 use Rattle.serde_json.specs.Data.{Data}
-use Rattle.cedar_expr_model.specs.Tree.{Tree, record_literal}
+use Rattle.cedar_expr_model.specs.Tree.{record_literal}
 use Rattle.cedar_expr_model.specs.Made.{Made}
 use Rattle.cedar_expr_model.specs.Restricted.{is_restricted}
-use Rattle.cedar_store_model.specs.Store.{unloaded}
-use Rattle.cedar_evaluator_model.specs.Scope.{unknown_uid, Context, unknown_context, Scope, Left, value_left}
+use Rattle.cedar_evaluator_model.specs.Scope.{Context, unknown_context, Left, value_left}
 use Rattle.cedar_gate_model.specs.Reading.{given}
-use Rattle.cedar_gate_model.specs.Bundle.{Functions}
+use Rattle.cedar_evaluator_model.specs.Functions.{Functions, left_of_restricted}
 use Rattle.cedar_gate_model.specs.ReadingForms.{word_of, first_form, if_passing}
 use Rattle.cedar_gate_model.specs.ReadingExpression.{second, expression_read, fields_read}
-use Rattle.cedar_evaluator_model.specs.Reauthorize.{restricted_left, context_from}
-
--- a scope that knows nothing but the functions
-abbrev pub with_functions : Functions → Scope
-with_functions x = record {
-  principal = unknown_uid None;
-  action = unknown_uid None;
-  resource = unknown_uid None;
-  context = unknown_context;
-  slots = λ s. None;
-  values = λ n. None;
-  table = x.table;
-  calls = x.calls;
-  store = λ u. unloaded u;
-}
-
--- what is left of a restricted expression
-abbrev pub left_of_restricted : Functions → Tree → Left
-left_of_restricted x t = restricted_left (with_functions x) t
+use Rattle.cedar_evaluator_model.specs.Reauthorize.{context_from}
 
 abbrev pub if_value : Left → Option Made
 if_value (value_left m) = Some m

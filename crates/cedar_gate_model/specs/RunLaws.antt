@@ -9,7 +9,8 @@ use Rattle.cedar_store_model.specs.Answer.{Answer}
 use Rattle.cedar_schema_model.specs.BagLaws.{HasTwice}
 use Rattle.cedar_evaluator_model.specs.Scope.{Context, closed, residual_fields, unknown_context}
 use Rattle.cedar_gate_model.specs.Acceptance.{IsAccepted}
-use Rattle.cedar_gate_model.specs.Bundle.{Functions, Bundle}
+use Rattle.cedar_evaluator_model.specs.Functions.{Functions}
+use Rattle.cedar_gate_model.specs.Bundle.{Bundle}
 use Rattle.cedar_gate_model.specs.Moment.{at_first}
 use Rattle.cedar_gate_model.specs.GateLaws.{asked_in, AsksTheSlice}
 use Rattle.cedar_gate_model.specs.Transcript.{Step, load, bind_name, decide, Entry, round, bound, decided, Case, AreLegal}

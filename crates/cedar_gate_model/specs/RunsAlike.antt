@@ -15,7 +15,7 @@ use Rattle.cedar_schema_model.specs.BagLaws.{IsReordered}
 use Rattle.cedar_schema_model.specs.Declarations.{Declarations, bag}
 use Rattle.cedar_typechecker_model.specs.Verdicts.{RequestType, irrelevant_for}
 use Rattle.cedar_gate_model.specs.Acceptance.{Submission, IsAccepted, schema_in, warnings_of}
-use Rattle.cedar_gate_model.specs.Slice.{InSlice}
+use Rattle.cedar_typechecker_model.specs.Slice.{InSlice}
 use Rattle.cedar_gate_model.specs.Transcript.{Step, Entry}
 use Rattle.cedar_gate_model.specs.Session.{world_now}
 use Rattle.cedar_gate_model.specs.Runs.{End, answered}

@@ -29,10 +29,10 @@ use Rattle.cedar_evaluator_model.specs.Completion.{PartIs}
 use Rattle.cedar_evaluator_model.specs.OfLaws.Completable.{is_free_name}
 use Rattle.cedar_expr_model.specs.Tree.{TreeFields, record_literal}
 use Rattle.cedar_gate_model.specs.Acceptance.{Submission, IsAccepted, schema_in}
-use Rattle.cedar_gate_model.specs.Bundle.{Functions, Bundle}
+use Rattle.cedar_evaluator_model.specs.Functions.{Functions, with_functions}
+use Rattle.cedar_gate_model.specs.Bundle.{Bundle}
 use Rattle.cedar_gate_model.specs.Moment.{request_of, at_first}
 use Rattle.cedar_gate_model.specs.ReadingBundle.{bundle_read}
-use Rattle.cedar_gate_model.specs.ReadingValue.{with_functions}
 use Rattle.cedar_gate_model.specs.Transcript.{Step, Entry, decided, AreLegal}
 use Rattle.cedar_gate_model.specs.Session.{Setup, State, value_of, context_now, scope_now, known_now, whole_store, world_now, NothingIsWanted, OpenRefusal, OpenFault, BindRefusal, BindFault, HasOpenName, CompletesNow}
 use Rattle.cedar_gate_model.specs.Runs.{End, answered, MayDecide, IsKnownBy, DecidesInPart, Runs}

@@ -23,10 +23,9 @@ use Rattle.cedar_evaluator_model.specs.Scope.{Scope, Entry, uid, unknown_uid, Co
 use Rattle.cedar_evaluator_model.specs.Known.{known_found, known_world}
 use Rattle.cedar_evaluator_model.specs.Response.{response_of, PartialRequest}
 use Rattle.cedar_evaluator_model.specs.Members.{met_limit}
-use Rattle.cedar_gate_model.specs.Bundle.{Functions}
-use Rattle.cedar_gate_model.specs.Slice.{InSlice}
+use Rattle.cedar_evaluator_model.specs.Functions.{Functions, with_functions, left_of_restricted}
+use Rattle.cedar_typechecker_model.specs.Slice.{InSlice}
 use Rattle.cedar_evaluator_model.specs.Reauthorize.{context_from}
-use Rattle.cedar_gate_model.specs.ReadingValue.{with_functions, left_of_restricted}
 use Rattle.cedar_gate_model.specs.Moment.{Completes, request_of}
 use Rattle.std.specs.Map.{lookup, keys_of}
 use Rattle.std.specs.Option.{option_map_or}

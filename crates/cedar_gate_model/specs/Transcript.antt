@@ -9,7 +9,7 @@ use Rattle.cedar_store_model.specs.World.{World}
 use Rattle.cedar_store_model.specs.Policy.{Policy}
 use Rattle.cedar_store_model.specs.Answer.{Decision, Answer, decision_of, answer_of}
 use Rattle.cedar_schema_model.specs.Schema.{Schema}
-use Rattle.cedar_gate_model.specs.Slice.{InSlice}
+use Rattle.cedar_typechecker_model.specs.Slice.{InSlice}
 use Rattle.cedar_gate_model.specs.Moment.{Moment, at_first, known_at}
 use Rattle.cedar_evaluator_model.specs.Response.{PartialRequest}
 

@@ -21,7 +21,8 @@ use Rattle.cedar_typechecker_model.specs.Verdicts.{RequestType}
 use Rattle.cedar_evaluator_model.specs.Scope.{MadeCalled, makes, faults, Entry, uid, unknown_uid, Context, closed, residual_fields}
 use Rattle.cedar_evaluator_model.specs.Response.{Response, response_of, PartialRequest}
 use Rattle.cedar_gate_model.specs.Acceptance.{Submission, schema_in}
-use Rattle.cedar_gate_model.specs.Bundle.{Functions, Bundle}
+use Rattle.cedar_evaluator_model.specs.Functions.{Functions}
+use Rattle.cedar_gate_model.specs.Bundle.{Bundle}
 use Rattle.cedar_schema_model.specs.Schema.{declares_action}
 use Rattle.cedar_gate_model.specs.Session.{Setup, State, at_start, known_now, world_now, scope_now, Supplied}
 use Rattle.cedar_gate_model.specs.Runs.{supplied_by}

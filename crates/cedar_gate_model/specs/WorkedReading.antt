@@ -17,7 +17,8 @@ use Rattle.cedar_store_model.specs.World.{Entity}
 use Rattle.cedar_evaluator_model.specs.Scope.{MadeCalled, makes, faults, uid, unknown_uid, closed}
 use Rattle.cedar_gate_model.specs.Reading.{given}
 use Rattle.cedar_gate_model.specs.Acceptance.{Submission}
-use Rattle.cedar_gate_model.specs.Bundle.{Functions, Bundle}
+use Rattle.cedar_evaluator_model.specs.Functions.{Functions}
+use Rattle.cedar_gate_model.specs.Bundle.{Bundle}
 use Rattle.cedar_evaluator_model.specs.Response.{PartialRequest}
 use Rattle.cedar_gate_model.specs.ReadingBundle.{bundle_read}
 

@@ -7,16 +7,14 @@ ghost use Rattle.cedar_store_model.specs.Policy.{condition};
 ghost use Rattle.cedar_schema_model.specs.Conforming.{entity_conforms};
 ghost use Rattle.cedar_typechecker_model.specs.Worked.{user_a, doc_d};
 ghost use Rattle.cedar_gate_model.specs.Acceptance.{IsAccepted, schema_in};
-ghost use Rattle.cedar_gate_model.specs.Slice.{slice};
-ghost use Rattle.cedar_gate_model.specs.SliceSoundness.{LookupsAreInReach, ConditionsAreInReach, AcceptedAreInReach, CompletionsFit, AcceptedAreSound, OnlyTheSliceAnswers, IsFitFor};
+ghost use Rattle.cedar_typechecker_model.specs.Slice.{slice};
+ghost use Rattle.cedar_gate_model.specs.SliceSoundness.{AcceptedAreInReach, CompletionsFit, AcceptedAreSound, OnlyTheSliceAnswers, IsFitFor};
 ghost use Rattle.cedar_gate_model.specs.WorkedGate.{user_b, user_z, p0, without_ok, level_two, three_and_z, viewed_by_a};
 
-/// What a typed expression looks up is in the slice at a level where it has no violation, or is a declared action; the same of the
-/// condition of a policy, so of each policy of an accepted submission. Entities outside of the slice may be anything.
+/// What the condition of a policy of an accepted submission looks up is in the slice at its level, or is a declared action. Entities
+/// outside of the slice may be anything.
 pub fn lookups_are_in_the_slice()
-    ensures expressions { LookupsAreInReach }
-    ensures conditions { ConditionsAreInReach }
-    ensures accepted { AcceptedAreInReach }
+    ensures { AcceptedAreInReach }
 {}
 
 /// A world that completes a request is fit for a submission, where the table is fair.

@@ -15,7 +15,7 @@ ghost use Rattle.cedar_typechecker_model.specs.Worked.{user, doc, user_a, doc_d,
 ghost use Rattle.cedar_evaluator_model.specs.Scope.{uid, unknown_uid, unknown_context};
 ghost use Rattle.cedar_gate_model.specs.GateLaws.{policy_causes, admits, asked_in, last_rounds, Holds};
 ghost use Rattle.cedar_gate_model.specs.Acceptance.{schema, external, repeated_policy, unlinked_slot, slot_outside_scope, unknown_in_policy, nests_too_deep, unknown_entity_type, unknown_action, no_member, ill_typed, reaches_too_far, is_clear_of, is_linked, keeps_slots_in_scope, asks_schema, has_schema, number_of, warnings_of, policies_for, schema_in, extension_types};
-ghost use Rattle.cedar_gate_model.specs.Slice.{mentioned, mentioned_by_found, near, slice, roots};
+ghost use Rattle.cedar_typechecker_model.specs.Slice.{mentioned, mentioned_by_found, near, slice, roots};
 ghost use Rattle.cedar_expr_model.specs.Lists.{when};
 ghost use Rattle.cedar_gate_model.specs.Moment.{Completes, at_first, is_bound, entry_known, context_known, known_at};
 ghost use Rattle.cedar_gate_model.specs.Transcript.{round, bound, decided};

@@ -11,7 +11,7 @@ use Rattle.cedar_expr_values.specs.Extension.{Extension}
 use Rattle.cedar_expr_values.specs.Kept.{made_fields_size}
 use Rattle.cedar_expr_values.specs.Values.{bare, bare_pair, made_fields, made_pair}
 use Rattle.cedar_expr_values.specs.declared.value.Value.{Value}
-use Rattle.cedar_gate_model.specs.Slice.{mentioned_in_fields}
+use Rattle.cedar_typechecker_model.specs.Slice.{mentioned_in_fields}
 use Rattle.cedar_gate_openings.specs.Mentions.{mentioned_in}
 
 module _ {X : Type 0} (seen : X → Extension) where

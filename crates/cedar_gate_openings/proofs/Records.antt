@@ -21,10 +21,9 @@ use Rattle.cedar_expr_trees.specs.Trees.{tree_of}
 use Rattle.cedar_expr_trees.specs.declared.expr.Expr.{Expr}
 use Rattle.cedar_evaluator_requests.specs.declared.context.Context as code
 use Rattle.cedar_evaluator_restricted_exprs.specs.Lefts.{is_stopped}
-use Rattle.cedar_gate_model.specs.Bundle.{Functions}
-use Rattle.cedar_gate_model.specs.ReadingValue.{with_functions, left_of_restricted}
-use Rattle.cedar_gate_model.proofs.Reading.Values.{Clean, evaluated_clean, none_is}
-use Rattle.cedar_gate_model.proofs.Runs.Contexts.{puts, substituted_restricted}
+use Rattle.cedar_evaluator_model.specs.Functions.{Functions, with_functions, left_of_restricted}
+use Rattle.cedar_evaluator_model.proofs.Restricted.{Clean, evaluated_clean, none_is, substituted_restricted}
+use Rattle.cedar_gate_model.proofs.Runs.Contexts.{puts}
 use Rattle.cedar_gate_openings.specs.Requests.{fields_left, left_context, IsRecordTree}
 use Rattle.cedar_evaluator_restricted_exprs.proofs.OfRecord.{left_is_of_record}
 use Rattle.cedar_evaluator_restricted_exprs.specs.Contexts.{IsOfRecord}

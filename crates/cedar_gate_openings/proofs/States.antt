@@ -10,10 +10,10 @@ use Rattle.cedar_expr_model.specs.Tree.{record_literal}
 use Rattle.cedar_evaluator_restricted_exprs.specs.Lefts.{is_stopped}
 use Rattle.cedar_evaluator_requests.specs.Views.{request_of}
 use Rattle.cedar_evaluator_requests.specs.declared.request.Request.{Request}
-use Rattle.cedar_gate_model.specs.Bundle.{Functions}
+use Rattle.cedar_evaluator_model.specs.Functions.{Functions}
 use Rattle.cedar_gate_model.specs.Session.{State, value_of, known_now, entry_now, context_now, with_bound, ContextFails}
-use Rattle.cedar_gate_model.specs.Slice.{roots}
-use Rattle.cedar_gate_model.proofs.Gate.Mentions.{root_cases, root_from}
+use Rattle.cedar_typechecker_model.specs.Slice.{roots}
+use Rattle.cedar_typechecker_model.proofs.Mentions.{root_cases, root_from}
 use Rattle.cedar_gate_model.proofs.Gate.Slices.{known_kept}
 use Rattle.cedar_gate_model.proofs.Gate.Slices as slices
 use Rattle.cedar_gate_model.proofs.Runs.Contexts.{binding_grows, entry_kept, context_kept}

@@ -7,7 +7,7 @@ use Rattle.cedar_expr_model.specs.Made.{Made}
 use Rattle.cedar_evaluator_model.specs.Response.{PartialRequest}
 use Rattle.cedar_gate_model.specs.RunsAsk.{IsMadeContext}
 use Rattle.cedar_gate_model.specs.Session.{Setup, State, known_now, is_open_name, with_bound}
-use Rattle.cedar_gate_model.specs.Slice.{roots}
+use Rattle.cedar_typechecker_model.specs.Slice.{roots}
 use Rattle.cedar_gate_openings.specs.Requests.{request_at}
 use Rattle.cedar_gate_openings.specs.Roots.{known_roots}
 use Rattle.cedar_gate_wanted.specs.Laws.{IsBoundMore}

@@ -5,3 +5,4 @@ pub mod Mentions
 pub mod Names
 pub mod Values
 pub mod Faults
+pub mod Bound

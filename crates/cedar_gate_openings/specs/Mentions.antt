@@ -13,7 +13,7 @@ use Rattle.cedar_expr_values.specs.Values.{bare_pair}
 use Rattle.cedar_expr_values.specs.declared.extension.ExtValue.{ExtValue}
 use Rattle.cedar_expr_values.specs.declared.value.Value.{Value}
 use Rattle.cedar_store_entities.specs.Views.{bare_part, part_pair}
-use Rattle.cedar_gate_model.specs.Slice.{mentioned_in_fields, mentioned_by_parts}
+use Rattle.cedar_typechecker_model.specs.Slice.{mentioned_in_fields, mentioned_by_parts}
 
 -- the uids of a list
 abbrev pub uids : List EntityUID → List Uid

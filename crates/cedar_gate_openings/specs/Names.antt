@@ -1,6 +1,6 @@
 -- What is bound, and which names are open by it.
 -- Rule: sessions (docs/RULES.md).
-use Rattle.std.specs.Prelude.{◌≡◌, ◌&&◌, ◌||◌, not, is_some, nat_eq, Bool, true, false, Option, option_map, codes}
+use Rattle.std.specs.Prelude.{◌≡◌, ◌&&◌, ◌||◌, not, is_some, nat_eq, Bool, true, false, Option, option_map, codes, if◌then◌else◌}
 use Rattle.std.specs.HashMap.{HashMap, get_by}
 use Rattle.std.specs.List.{list_any}
 use Rattle.std.specs.Rc.{rc_str_bytes}
@@ -22,6 +22,10 @@ use Rattle.cedar_gate_model.specs.Session.{entry_named, is_open_entry, is_open_c
 -- the value that a name is bound to
 abbrev pub bound_in : {S : Type 0} → HashMap (RcStr Global) (Value ExtValue) S → Text → Option Made
 bound_in m = λ n. option_map (made extension_of) (get_by (λ k. bytes_eq n (rc_str_bytes k)) m)
+
+-- the name is bound to this value, or to none, and the others are bound as before
+abbrev pub Rebinds : Text → Option Made → (Text → Option Made) → (Text → Option Made) → Type 0
+Rebinds name value before after = (n : Text) → after n ≡ (if bytes_eq name n then value else before n)
 
 -- a double quote stands in the name
 abbrev pub has_quote : Text → Bool

@@ -13,8 +13,7 @@ use Rattle.cedar_evaluator_model.specs.Response.{PartialRequest}
 use Rattle.cedar_evaluator_model.specs.Scope.{Entry, uid, unknown_uid, Context, closed, residual_fields, unknown_context, Left, value_left, residual, stopped}
 use Rattle.cedar_evaluator_restricted_exprs.specs.Lefts.{is_stopped}
 use Rattle.cedar_evaluator_restricted_exprs.specs.Contexts.{IsOfRecord}
-use Rattle.cedar_gate_model.specs.Bundle.{Functions}
-use Rattle.cedar_gate_model.specs.ReadingValue.{left_of_restricted}
+use Rattle.cedar_evaluator_model.specs.Functions.{Functions, left_of_restricted}
 use Rattle.cedar_gate_model.specs.Session.{State, value_of, uid_in, entry_now, context_now}
 
 -- an entry with the value that is bound to its name

@@ -6,7 +6,7 @@ use Rattle.cedar_expr_model.specs.Uid.{Uid}
 use Rattle.cedar_evaluator_model.specs.Known.{known_entry, known_context}
 use Rattle.cedar_evaluator_model.specs.Response.{PartialRequest}
 use Rattle.cedar_evaluator_model.specs.Scope.{Context}
-use Rattle.cedar_gate_model.specs.Slice.{mentioned}
+use Rattle.cedar_typechecker_model.specs.Slice.{mentioned}
 
 -- what a context mentions, where it is known
 abbrev pub mentioned_by_context : Context → List Uid

@@ -5,13 +5,12 @@ ghost use Rattle.cedar_expr_model.specs.Restricted.{is_restricted};
 ghost use Rattle.cedar_expr_trees.specs.Trees.{tree_of};
 ghost use Rattle.cedar_evaluator_model.specs.Reauthorize.{context_from};
 ghost use Rattle.cedar_evaluator_requests.specs.Views.{context_of, restricted_tree};
-ghost use Rattle.cedar_evaluator_restricted_exprs.specs.Answers.{AgreesWith};
 ghost use Rattle.cedar_evaluator_restricted_exprs.specs.Lefts.{is_stopped};
+ghost use Rattle.cedar_gate_openings.specs.Bound.{ByFunctions, left_with};
 ghost use Rattle.cedar_gate_openings.specs.Names.{bound_in};
 ghost use Rattle.cedar_expr_model.specs.Substitution.{substituted};
-ghost use Rattle.cedar_gate_model.specs.Bundle.{Functions};
-ghost use Rattle.cedar_gate_model.specs.ReadingValue.{left_of_restricted};
-ghost use Rattle.cedar_gate_openings.specs.Requests.{fields_left, IsRecordTree};
+ghost use Rattle.cedar_evaluator_model.specs.Functions.{left_of_restricted};
+ghost use Rattle.cedar_gate_openings.specs.Requests.{IsRecordTree};
 
 use crate::V;
 use cedar_evaluator_requests::{Context, RestrictedFields};
@@ -31,8 +30,8 @@ pub(crate) fn bound_context(
     fields: &RestrictedFields,
     bound: &HashMap<RcStr, V>,
 ) -> Result<Option<Context>, AllocError>
-    ensures made { IfOk result (λ c. (x : Functions) → AgreesWith table.now x → option_map context_of c ≡ context_from (fields_left x (bound_in bound.now) (restricted_tree fields.now))) }
-    ensures fails { IfOk result (λ c. (x : Functions) → AgreesWith table.now x → is_none c ≡ is_stopped (fields_left x (bound_in bound.now) (restricted_tree fields.now))) }
+    ensures made { IfOk result (λ c. ByFunctions table.now (λ x. option_map context_of c ≡ context_from (left_with x bound.now fields.now))) }
+    ensures fails { IfOk result (λ c. ByFunctions table.now (λ x. is_none c ≡ is_stopped (left_with x bound.now fields.now))) }
 {
     let record = with_values(alloc, fields, bound)?;
     context_evaluated(alloc, table, &record)
@@ -68,8 +67,8 @@ fn context_evaluated(
 ) -> Result<Option<Context>, AllocError>
     requires restricted { is_restricted (tree_of e.now) ≡ true }
     requires of_record { IsRecordTree (tree_of e.now) }
-    ensures made { IfOk result (λ c. (x : Functions) → AgreesWith table.now x → option_map context_of c ≡ context_from (left_of_restricted x (tree_of e.now))) }
-    ensures fails { IfOk result (λ c. (x : Functions) → AgreesWith table.now x → is_none c ≡ is_stopped (left_of_restricted x (tree_of e.now))) }
+    ensures made { IfOk result (λ c. ByFunctions table.now (λ x. option_map context_of c ≡ context_from (left_of_restricted x (tree_of e.now)))) }
+    ensures fails { IfOk result (λ c. ByFunctions table.now (λ x. is_none c ≡ is_stopped (left_of_restricted x (tree_of e.now)))) }
 {
     match evaluate(alloc, table, e) {
         Ok(left) => context_left(alloc, &left),

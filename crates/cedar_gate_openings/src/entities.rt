@@ -3,7 +3,7 @@
 ghost use Rattle.std.specs.Prelude.{◌≡◌, ◌++◌, IfOk, OnOk};
 ghost use Rattle.cedar_store_model.specs.World.{held};
 ghost use Rattle.cedar_store_entities.specs.Views.{entity_of};
-ghost use Rattle.cedar_gate_model.specs.Slice.{mentioned_by_found};
+ghost use Rattle.cedar_typechecker_model.specs.Slice.{mentioned_by_found};
 ghost use Rattle.cedar_gate_openings.specs.Mentions.{uids, mentioned_by_these};
 
 use crate::mentions::add_mentioned;
@@ -43,7 +43,7 @@ ghost use Rattle.std.specs.Option.{option_map_or};
 ghost use Rattle.std.specs.Prelude.{[]};
 ghost use Rattle.cedar_expr_model.specs.ValueParts.{known_value};
 ghost use Rattle.cedar_store_entities.specs.Views.{bare_part, part_seen};
-ghost use Rattle.cedar_gate_model.specs.Slice.{mentioned};
+ghost use Rattle.cedar_typechecker_model.specs.Slice.{mentioned};
 
 // Adds the uids that an attribute or a tag mentions, if it is a value.
 fn add_by_part(part: &PartialValue<ExtValue>, to: &mut Vec<EntityUID>) -> Result<(), AllocError>

@@ -1,8 +1,9 @@
 //! The roots of a request.
 
-ghost use Rattle.std.specs.Prelude.{◌≡◌, ◌++◌, IfOk, OnOk, option_map, option_to_list};
+ghost use Rattle.std.specs.Prelude.{◌≡◌, ◌++◌, IfOk, OnOk, option_to_list};
 ghost use Rattle.cedar_evaluator_model.specs.Known.{known_entry};
-ghost use Rattle.cedar_evaluator_requests.specs.Views.{entry_of, context_or_unknown, request_of};
+ghost use Rattle.cedar_evaluator_requests.specs.Views.{entry_of, request_of};
+ghost use Rattle.cedar_gate_openings.specs.Bound.{context_in};
 ghost use Rattle.cedar_gate_openings.specs.Mentions.{uids};
 ghost use Rattle.cedar_gate_openings.specs.Roots.{known_roots, mentioned_by_context};
 
@@ -38,7 +39,7 @@ fn add_entry(entry: &EntityUIDEntry, to: &mut Vec<EntityUID>) -> Result<(), Allo
 
 // Adds what the context mentions, where it is known.
 fn add_by_context(context: Option<&Context>, to: &mut Vec<EntityUID>) -> Result<(), AllocError>
-    ensures { OnOk result (uids to.new.items ≡ uids to.old.items ++ mentioned_by_context (context_or_unknown (option_map (λ c. c.now) context.entry))) }
+    ensures { OnOk result (uids to.new.items ≡ uids to.old.items ++ mentioned_by_context (context_in context.entry)) }
 {
     match context {
         Some(Context::Value(fields)) => add_mentioned_in(fields.as_map(), to),

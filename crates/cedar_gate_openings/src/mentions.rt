@@ -2,7 +2,7 @@
 
 ghost use Rattle.std.specs.Prelude.{◌≡◌, ◌++◌, OnOk};
 ghost use Rattle.cedar_expr_values.specs.Values.{bare};
-ghost use Rattle.cedar_gate_model.specs.Slice.{mentioned};
+ghost use Rattle.cedar_typechecker_model.specs.Slice.{mentioned};
 ghost use Rattle.cedar_gate_openings.specs.Mentions.{uids, mentioned_in};
 
 use cedar_expr_leaves::Literal;

@@ -3,9 +3,10 @@
 ghost use Rattle.std.specs.Prelude.{◌≡◌, option_map, IfOk, IfErr, OnOk, true, false};
 ghost use Rattle.cedar_expr_model.specs.Parts.{unknowns};
 ghost use Rattle.cedar_expr_trees.specs.Trees.{tree_of};
-ghost use Rattle.cedar_evaluator_requests.specs.Views.{entry_of, context_or_unknown, request_of, restricted_tree};
+ghost use Rattle.cedar_evaluator_requests.specs.Views.{entry_of, request_of, restricted_tree};
 ghost use Rattle.cedar_gate_model.specs.Session as session;
 ghost use Rattle.cedar_gate_model.specs.Session.{context_unknowns};
+ghost use Rattle.cedar_gate_openings.specs.Bound.{context_in};
 ghost use Rattle.cedar_gate_openings.specs.Names.{bound_in, is_open_by, HasOpenBy, is_open_variable, has_open_in, has_open_by};
 ghost use Rattle.cedar_gate_openings.specs.Faults.{IsOpenFault, opens, HaveFitNames, IsNameFault};
 
@@ -50,7 +51,7 @@ fn is_unknown(entry: Option<&EntityUIDEntry>) -> bool
 
 // Whether the name is open in the context. Fails only when out of memory.
 fn is_open_in(alloc: Global, context: Option<&Context>, name: &str) -> Result<bool, AllocError>
-    ensures { IfOk result (λ b. b ≡ session.is_open_context (context_or_unknown (option_map (λ c. c.now) context.entry)) name.entry.now) }
+    ensures { IfOk result (λ b. b ≡ session.is_open_context (context_in context.entry) name.entry.now) }
 {
     match context {
         Some(Context::Value(_)) => Ok(false),
@@ -85,7 +86,7 @@ fn has_open_in(
     context: Option<&Context>,
     bound: &HashMap<RcStr, V>,
 ) -> Result<bool, AllocError>
-    ensures { IfOk result (λ b. b ≡ has_open_in (bound_in bound.now) (context_or_unknown (option_map (λ c. c.now) context.entry))) }
+    ensures { IfOk result (λ b. b ≡ has_open_in (bound_in bound.now) (context_in context.entry)) }
 {
     match context {
         Some(Context::Value(_)) => Ok(false),
@@ -146,8 +147,8 @@ fn check_fields(alloc: Global, fields: &RestrictedFields) -> Result<(), OpenFaul
 
 // Whether the names of the unknowns of a context, if it is there, are fit. Errors: a fault that is there.
 fn check_context(alloc: Global, context: Option<&Context>) -> Result<(), OpenFault>
-    ensures fit { OnOk result (HaveFitNames (context_unknowns (context_or_unknown (option_map (λ c. c.now) context.entry)))) }
-    ensures refused { IfErr result (IsNameFault (context_unknowns (context_or_unknown (option_map (λ c. c.now) context.entry)))) }
+    ensures fit { OnOk result (HaveFitNames (context_unknowns (context_in context.entry))) }
+    ensures refused { IfErr result (IsNameFault (context_unknowns (context_in context.entry))) }
 {
     match context {
         Some(Context::RestrictedResidual(fields)) => check_fields(alloc, fields),

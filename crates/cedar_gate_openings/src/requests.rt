@@ -4,12 +4,10 @@ ghost use Rattle.std.specs.Prelude.{◌≡◌, true, false, codes, IfOk, option_
 ghost use Rattle.cedar_expr_values.specs.Extensions.{extension_of};
 ghost use Rattle.cedar_expr_values.specs.Values.{made};
 ghost use Rattle.cedar_evaluator_requests.specs.Views.{entry_of, context_or_unknown, request_of};
-ghost use Rattle.cedar_evaluator_restricted_exprs.specs.Answers.{AgreesWith};
-ghost use Rattle.cedar_gate_model.specs.Bundle.{Functions};
 ghost use Rattle.cedar_gate_openings.specs.Names.{bound_in};
 ghost use Rattle.cedar_gate_model.specs.RunsAsk.{IsMadeContext};
-ghost use Rattle.cedar_gate_model.specs.Session.{State, ContextFails};
-ghost use Rattle.cedar_gate_openings.specs.Requests.{entry_with, bound_context, context_by, fails_by, request_by, request_at, AreValuesOf};
+ghost use Rattle.cedar_gate_openings.specs.Bound.{ByFunctions, IsRequestBy, ContextFailsBy, ContextEvaluatesBy, context_in, fails_with, request_with};
+ghost use Rattle.cedar_gate_openings.specs.Requests.{entry_with, bound_context, context_by, fails_by};
 
 use crate::contexts::bound_context;
 use crate::{V, uid_in};
@@ -28,11 +26,11 @@ pub fn request_now(
     start: &Request,
     bound: &HashMap<RcStr, V>,
 ) -> Result<(Request, bool), AllocError>
-    ensures request { IfOk result (λ r. (x : Functions) → AgreesWith table.now x → request_of r.0 ≡ request_by x (bound_in bound.now) (request_of start.now)) }
-    ensures failing { IfOk result (λ r. (x : Functions) → AgreesWith table.now x → r.1 ≡ fails_by x (bound_in bound.now) (request_of start.now).context) }
-    ensures at_state { IfOk result (λ r. (x : Functions) → AgreesWith table.now x → (s : State) → AreValuesOf s (bound_in bound.now) → request_of r.0 ≡ request_at x s (request_of start.now)) }
-    ensures fails { IfOk result (λ r. (x : Functions) → AgreesWith table.now x → r.1 ≡ true → (s : State) → AreValuesOf s (bound_in bound.now) → ContextFails x s (request_of start.now).context) }
-    ensures evaluates { IfOk result (λ r. (x : Functions) → AgreesWith table.now x → r.1 ≡ false → (s : State) → AreValuesOf s (bound_in bound.now) → ContextFails x s (request_of start.now).context → ⊥) }
+    ensures request { IfOk result (λ r. ByFunctions table.now (λ x. request_of r.0 ≡ request_with x bound.now start.now)) }
+    ensures failing { IfOk result (λ r. ByFunctions table.now (λ x. r.1 ≡ fails_with x bound.now start.now)) }
+    ensures at_state { IfOk result (λ r. ByFunctions table.now (λ x. IsRequestBy x bound.now start.now r.0)) }
+    ensures fails { IfOk result (λ r. ByFunctions table.now (λ x. r.1 ≡ true → ContextFailsBy x bound.now start.now)) }
+    ensures evaluates { IfOk result (λ r. ByFunctions table.now (λ x. r.1 ≡ false → ContextEvaluatesBy x bound.now start.now)) }
 {
     request_with(alloc, table, start, bound)
 }
@@ -45,8 +43,8 @@ fn request_with(
     start: &Request,
     bound: &HashMap<RcStr, V>,
 ) -> Result<(Request, bool), AllocError>
-    ensures request { IfOk result (λ r. (x : Functions) → AgreesWith table.now x → request_of r.0 ≡ request_by x (bound_in bound.now) (request_of start.now)) }
-    ensures failing { IfOk result (λ r. (x : Functions) → AgreesWith table.now x → r.1 ≡ fails_by x (bound_in bound.now) (request_of start.now).context) }
+    ensures request { IfOk result (λ r. ByFunctions table.now (λ x. request_of r.0 ≡ request_with x bound.now start.now)) }
+    ensures failing { IfOk result (λ r. ByFunctions table.now (λ x. r.1 ≡ fails_with x bound.now start.now)) }
 {
     let (context, fails) = context_now(alloc, table, start.context(), bound)?;
     let principal = entry_now(start.principal(), bound_to(bound, "principal"))?;
@@ -108,8 +106,8 @@ fn context_now(
     start: Option<&Context>,
     bound: &HashMap<RcStr, V>,
 ) -> Result<(Option<Context>, bool), AllocError>
-    ensures context { IfOk result (λ r. (x : Functions) → AgreesWith table.now x → context_or_unknown r.0 ≡ context_by x (bound_in bound.now) (context_or_unknown (option_map (λ c. c.now) start.entry))) }
-    ensures fails { IfOk result (λ r. (x : Functions) → AgreesWith table.now x → r.1 ≡ fails_by x (bound_in bound.now) (context_or_unknown (option_map (λ c. c.now) start.entry))) }
+    ensures context { IfOk result (λ r. ByFunctions table.now (λ x. context_or_unknown r.0 ≡ context_by x (bound_in bound.now) (context_in start.entry))) }
+    ensures fails { IfOk result (λ r. ByFunctions table.now (λ x. r.1 ≡ fails_by x (bound_in bound.now) (context_in start.entry))) }
 {
     match start {
         Some(Context::RestrictedResidual(fields)) => {

@@ -7,8 +7,9 @@ ghost use Rattle.cedar_expr_values.specs.Values.{bare, made};
 ghost use Rattle.cedar_evaluator_requests.specs.Views.{request_of};
 ghost use Rattle.cedar_store_model.specs.Reads as reads;
 ghost use Rattle.std.specs.List.{list_any};
-ghost use Rattle.cedar_evaluator_requests.specs.Views.{entry_of, context_or_unknown};
+ghost use Rattle.cedar_evaluator_requests.specs.Views.{entry_of};
 ghost use Rattle.cedar_gate_model.specs.Session.{context_unknowns, IsOtherKind};
+ghost use Rattle.cedar_gate_openings.specs.Bound.{context_in};
 ghost use Rattle.cedar_gate_openings.specs.Values.{takes, is_against_one, IsAgainstOne, IsNoEntity, IsNoContext, is_record, is_other_kind};
 ghost use Rattle.cedar_gate_openings.specs.Faults.{IsValueFault, IsEntryFault, IsUnknownFault, IsContextFault};
 
@@ -53,7 +54,7 @@ fn is_against(
     name: &str,
     value: &V,
 ) -> Result<bool, AllocError>
-    ensures { IfOk result (λ b. b ≡ list_any (is_against_one name.now (bare extension_of value.now)) (context_unknowns (context_or_unknown (option_map (λ c. c.now) context.entry)))) }
+    ensures { IfOk result (λ b. b ≡ list_any (is_against_one name.now (bare extension_of value.now)) (context_unknowns (context_in context.entry))) }
 {
     match context {
         Some(Context::RestrictedResidual(fields)) => {
@@ -71,8 +72,8 @@ fn check_unknowns(
     name: &str,
     value: &V,
 ) -> Result<(), BindFault>
-    ensures fits { OnOk result (IsAgainstOne (context_unknowns (context_or_unknown (option_map (λ c. c.now) context.entry))) name.now (made extension_of value.now) → ⊥) }
-    ensures refused { IfErr result (IsUnknownFault (context_unknowns (context_or_unknown (option_map (λ c. c.now) context.entry))) name.now (made extension_of value.now)) }
+    ensures fits { OnOk result (IsAgainstOne (context_unknowns (context_in context.entry)) name.now (made extension_of value.now) → ⊥) }
+    ensures refused { IfErr result (IsUnknownFault (context_unknowns (context_in context.entry)) name.now (made extension_of value.now)) }
 {
     if is_against(alloc, context, name, value)? {
         return Err(BindFault::AgainstAnnotation);

@@ -11,7 +11,7 @@ use Rattle.cedar_expr_values.specs.Members.{value_kept}
 use Rattle.cedar_expr_values.specs.Values.{made}
 use Rattle.cedar_evaluator_model.specs.OfLaws.WellMade.{MakeValues}
 use Rattle.cedar_evaluator_model.proofs.Represented.{well_of_represented}
-use Rattle.cedar_gate_model.specs.Bundle.{Functions}
+use Rattle.cedar_evaluator_model.specs.Functions.{Functions}
 use Rattle.cedar_gate_model.specs.RunLaws.{bindings_in}
 use Rattle.cedar_gate_model.specs.RunsAnswer.{Course, IsAdmitted, IsProper, AnswerFairly, MakeFairly}
 use Rattle.cedar_gate_model.specs.Session.{State}

@@ -59,3 +59,7 @@ AskedBy first asked f = (more : List (List Uid)) × IsLost f more × (asked ≡ 
 abbrev pub AskedIn : List (List Uid) → List (List Uid) → Result Transcript RunFault → Type 0
 AskedIn first asked (Ok t) = AskedRounds first asked (entries_of t.entries.items)
 AskedIn first asked (Err f) = AskedBy first asked f
+
+-- what a run leaves asked for by this stop with these entries
+abbrev pub StopsAsked : List Entry → Stop → RunFault → Type 0
+StopsAsked es s f = (first asked : List (List Uid)) → AskedBeyond (first ++ rounds_of es) asked s → AskedBy first asked f

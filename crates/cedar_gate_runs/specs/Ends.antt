@@ -1,14 +1,16 @@
 -- What runs of the code come to.
 -- Rule: runs; statuses and refusal numbers (docs/RULES.md).
-use Rattle.std.specs.Prelude.{◌≡◌, Some, option_map, Result, Ok, Err}
+use Rattle.std.specs.Prelude.{◌≡◌, List, Some, option_map, Result, Ok, Err}
 use Rattle.cedar_store_model.specs.Answer.{Answer}
 use Rattle.cedar_evaluator_model.specs.Laws.{as_concrete}
 use Rattle.cedar_evaluator_requests.specs.Views.{answer_of}
 use Rattle.cedar_gate_model.specs.Runs.{answered, opening_refused, supply_refused, binding_refused, answer_refused}
 use Rattle.cedar_gate_model.specs.RunsAnswer.{Course, session_of, IsRun}
 use Rattle.cedar_gate_model.specs.Session.{at_start, OpenRefusal, open_number, SupplyRefusal, supply_number, BindRefusal, bind_number, AnswerRefusal, answer_number}
-use Rattle.cedar_gate_runs.specs.Stopping.{WasDone}
+use Rattle.cedar_gate_model.specs.Transcript.{Entry}
+use Rattle.cedar_gate_runs.specs.Stopping.{WasDone, HasStopped}
 use Rattle.cedar_gate_runs.specs.Transcripts.{entries_of}
+use Rattle.cedar_gate_runs.specs.declared.stops_with.Stop.{Stop}
 use Rattle.cedar_gate_runs.specs.declared.transcript.Transcript.{Transcript}
 use Rattle.cedar_gate_runs.specs.declared.stops.RunFault.{RunFault}
 use Rattle.cedar_gate_runs.specs.declared.stops.RunFault.TheVariants.{Memory, Host, Opening, Supplying, Binding, Answering}
@@ -31,3 +33,7 @@ IsStopped c (Answering n t) = (f : AnswerRefusal) × (n ≡ answer_number f) × 
 abbrev pub IsRunOf : Course → Result Transcript RunFault → Type 0
 IsRunOf c (Ok t) = IsAnswered c t
 IsRunOf c (Err f) = IsStopped c f
+
+-- a run of the steps of the course stopped with these entries
+abbrev pub HasStoppedBy : Course → List Entry → Stop → Type 0
+HasStoppedBy c es stop = HasStopped (session_of c) c.submission.policies at_start c.steps es stop

@@ -10,6 +10,7 @@ pub mod Asking
 pub mod Counting
 pub mod Lost
 pub mod Promised
+pub mod States
 pub mod Hosts
 pub mod Stores
 pub mod Printing

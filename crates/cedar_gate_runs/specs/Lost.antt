@@ -16,9 +16,13 @@ use Rattle.cedar_gate_runs.specs.Transcripts.{entries_of}
 use Rattle.cedar_gate_runs.specs.declared.stops.RunFault.{RunFault}
 use Rattle.cedar_gate_runs.specs.declared.transcript.Transcript.{Transcript}
 
--- Beyond what was told of, the host was asked for nothing, or for the list of what is wanted at the state, which isn't empty.
+-- Beyond what is reported, the host was asked for nothing, or for the list of what is wanted at the state, which isn't empty.
 abbrev pub AskedLast : Setup → State → List (List Uid) → List (List Uid) → Type 0
 AskedLast x s told asked = (asked ≡ told) ⊎ ((uids : List Uid) × (uids ≢ []) × IsWantedList x s uids × (asked ≡ told ++ uids ∷ []))
+
+-- the host was asked for these uids at most
+abbrev pub AskedAtMost : List (List Uid) → List (List Uid) → List Uid → Type 0
+AskedAtMost before after uids = (after ≡ before) ⊎ (after ≡ before ++ uids ∷ [])
 
 -- Rounds were added, which led to a state where the next one stopped.
 pub record StopsLoading (x : Setup) (s : State) (before after : List Entry) (first asked : List (List Uid)) : Type 0 where
@@ -52,7 +56,7 @@ entries_in (Err f) = entries_done f
 abbrev pub uids_in : List (List Uid) → List Uid
 uids_in lists = flat_map (λ us. us) lists
 
--- Beyond what it was asked at first, the host was asked for lists in which no uid stands twice, in two of them or in one; and each uid is near.
+-- Beyond what it was asked at first, the host was asked for lists in which no uid is repeated, in two of them or in one; and each uid is near.
 pub record AsksOnce (c : Course) (first asked : List (List Uid)) (es : List Entry) : Type 0 where
   pub lists : List (List Uid)
   pub gained : asked ≡ first ++ lists

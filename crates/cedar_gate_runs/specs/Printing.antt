@@ -1,16 +1,21 @@
 -- Parts of the lines that are printed.
 -- Rule: the lines (docs/RULES.md).
-use Rattle.std.specs.Prelude.{ℕ, List, [], ◌∷◌, ◌++◌, Option, codes}
+use Rattle.std.specs.Prelude.{ℕ, ◌<◌, List, [], ◌∷◌, ◌++◌, Option, codes, length, take}
 use Rattle.std.specs.List.{flat_map}
 use Rattle.std.specs.Option.{option_map_or}
 use Rattle.std.specs.Fmt.{decimal}
+use Rattle.std.specs.Io.KnownBytes.{Appends}
 use Rattle.cedar_expr_model.specs.Name.{Text}
 use Rattle.cedar_expr_model.specs.Uid.{Uid, uid_text, quoted}
 use Rattle.cedar_store_model.specs.Answer.{Decision}
 use Rattle.cedar_evaluator_model.specs.Scope.{fault, limit}
 use Rattle.cedar_evaluator_model.specs.Response.{Cause, stops, no_value, ResponseError}
 use Rattle.cedar_evaluator_model.specs.Members.{Concrete}
-use Rattle.cedar_gate_model.specs.Lines.{line, decision_word, fault_words}
+use Rattle.cedar_gate_model.specs.Lines.{line, decision_word, entry_lines, fault_words}
+use Rattle.cedar_evaluator_requests.specs.Views.{answer_of}
+use Rattle.cedar_evaluator_requests.specs.declared.response.Response.{Response}
+use Rattle.cedar_gate_runs.specs.Transcripts.{entries_of}
+use Rattle.cedar_gate_runs.specs.declared.transcript.Transcript.{Transcript}
 
 -- the uids of a round, each after a space
 abbrev pub uids_text : List Uid → Text
@@ -39,3 +44,18 @@ error_line e = line (codes "error " ++ (quoted e.id ++ cause_words e.cause))
 -- the answer's line, its reasons and its errors
 abbrev pub concrete_lines : Concrete → Text
 concrete_lines a = line (codes "answer " ++ decision_word a.decision) ++ (flat_map (λ id. named_line (codes "reason") id) a.reasons ++ flat_map error_line a.errors)
+
+-- the lines of impossible policies and of reasons, by their ids
+abbrev pub impossible_lines : List Text → Text
+impossible_lines ids = flat_map (λ id. named_line (codes "impossible") id) ids
+
+abbrev pub reason_lines : List Text → Text
+reason_lines ids = flat_map (λ id. named_line (codes "reason") id) ids
+
+-- the lines of a run that came to an answer
+abbrev pub answered_lines : Transcript → Response → Text
+answered_lines t r = entry_lines 1 (entries_of t.entries.items) ++ concrete_lines (answer_of r)
+
+-- known bytes grow by a beginning of a text that isn't all of it
+abbrev pub AppendsBeginning : Option (List ℕ) → Option (List ℕ) → Text → Type 0
+AppendsBeginning old new text = (n : ℕ) × (n < length text) × Appends old new (take n text)

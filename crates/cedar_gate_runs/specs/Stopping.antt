@@ -54,7 +54,7 @@ pub record Halts (x : Setup) (ps : List Policy) (s : State) (steps : List Step) 
   pub added : after ≡ before ++ entries
   pub stopped : HasStopped x ps s steps entries stop
 
--- Entries were added, with which a run of these steps came to an answer, told so.
+-- Entries were added, with which a run of these steps came to an answer, reported so.
 pub record ComesTo (x : Setup) (ps : List Policy) (s : State) (steps : List Step) (before after : List Entry) (told : Concrete) : Type 0 where
   pub entries : List Entry
   pub answer : Answer
@@ -62,7 +62,7 @@ pub record ComesTo (x : Setup) (ps : List Policy) (s : State) (steps : List Step
   pub same : told ≡ as_concrete answer
   pub follows : Follows (DecidesInPart x ps) x ps s steps entries (answered answer)
 
--- Nothing is wanted, and the answer of this state, which is told so, isn't refused.
+-- Nothing is wanted, and the answer of this state, which is reported so, isn't refused.
 pub record Finished (c : Course) (s : State) (told : Concrete) : Type 0 where
   pub answer : Answer
   pub same : told ≡ as_concrete answer

@@ -1,8 +1,9 @@
 -- Why runs stop, and the last line of it.
 -- Rule: statuses and refusal numbers; the lines (docs/RULES.md).
-use Rattle.std.specs.Prelude.{ℕ, Option, Some, None, codes}
+use Rattle.std.specs.Prelude.{◌++◌, ℕ, Option, option_map, Some, None, codes}
 use Rattle.cedar_expr_model.specs.Name.{Text}
-use Rattle.cedar_gate_model.specs.Lines.{numbered}
+use Rattle.cedar_gate_model.specs.Lines.{entry_lines, numbered}
+use Rattle.cedar_gate_runs.specs.Transcripts.{entries_of}
 use Rattle.cedar_gate_runs.specs.declared.transcript.Transcript.{Transcript}
 use Rattle.cedar_gate_runs.specs.declared.stops.RunFault.{RunFault}
 use Rattle.cedar_gate_runs.specs.declared.stops.RunFault.TheVariants.{Memory, Host, Opening, Supplying, Binding, Answering}
@@ -31,3 +32,7 @@ refusal_line (Opening n t) = Some (numbered (codes "open") n)
 refusal_line (Supplying n t) = Some (numbered (codes "supply") n)
 refusal_line (Binding n t) = Some (numbered (codes "bind") n)
 refusal_line (Answering n t) = Some (numbered (codes "answer") n)
+
+-- a text and the lines of a run that was refused
+abbrev pub text_refused : Text → RunFault → Option Text
+text_refused before f = option_map (λ end. before ++ (entry_lines 1 (entries_of (run_fault_transcript f).entries.items) ++ end)) (refusal_line f)

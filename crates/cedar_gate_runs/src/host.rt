@@ -1,9 +1,9 @@
 //! Hosts, which are asked for entities.
 
-ghost use Rattle.std.specs.Prelude.{◌≡◌, ℕ, ◌<◌, ◌↔◌, List, [], ◌∷◌, ◌++◌, map, IfOk, is_ok, if◌then◌else◌};
+ghost use Rattle.std.specs.Prelude.{◌≡◌, ℕ, ◌<◌, ◌↔◌, List, map, IfOk};
 ghost use Rattle.cedar_expr_names.specs.Views.{uid_of};
 ghost use Rattle.cedar_expr_model.specs.Uid.{Uid};
-ghost use Rattle.cedar_gate_runs.specs.Hosts.{Answers, answered_of, answer_from, failures_after};
+ghost use Rattle.cedar_gate_runs.specs.Hosts.{Answers, AreAnswersFrom, asked_after, failures_after};
 
 use cedar_expr_names::EntityUID;
 use cedar_store_entities::Entity;
@@ -49,8 +49,7 @@ pub trait Host {
         requires { faults self.old < u64.MAX }
         ensures store { store self.new ≡ store self.old }
         ensures honest { honest self.new ↔ honest self.old }
-        ensures asked { asked self.new ≡ (if is_ok result then asked self.old ++ map uid_of ids.now ∷ [] else asked self.old) }
+        ensures asked { asked self.new ≡ asked_after result (asked self.old) (map uid_of ids.now) }
         ensures faults { faults self.new ≡ failures_after result (faults self.old) }
-        ensures answers { honest self.old → IfOk result (λ answers.
-            map answered_of answers.items ≡ map (answer_from (store self.old)) (map uid_of ids.now)) };
+        ensures answers { honest self.old → IfOk result (λ answers. AreAnswersFrom (store self.old) (map uid_of ids.now) answers.items) };
 }

@@ -1,15 +1,15 @@
 //! The lines that are printed. Each function appends its lines to a text, and fails only out of memory.
 
-ghost use Rattle.std.specs.Prelude.{◌≡◌, ◌++◌, OnOk, Some, map, option_map, string_bytes, codes};
+ghost use Rattle.std.specs.Prelude.{◌≡◌, ◌++◌, OnOk, Some, map, option_map, string_bytes};
 ghost use Rattle.std.specs.List.{flat_map};
 ghost use Rattle.cedar_expr_names.specs.Views.{uid_of};
 ghost use Rattle.cedar_store_parts.specs.Parts.{id_text};
 ghost use Rattle.cedar_evaluator_errors.specs.Outcomes.{cause_of};
 ghost use Rattle.cedar_evaluator_requests.specs.Views.{decision_of, error_of, answer_of};
 ghost use Rattle.cedar_gate_model.specs.Lines as lines;
-ghost use Rattle.cedar_gate_runs.specs.Stops.{refusal_line, run_fault_transcript};
+ghost use Rattle.cedar_gate_runs.specs.Stops.{refusal_line, text_refused};
 ghost use Rattle.cedar_gate_runs.specs.Transcripts.{entries_of};
-ghost use Rattle.cedar_gate_runs.specs.Printing.{uids_text, round_line, decided_line, cause_words, error_line, concrete_lines, named_line};
+ghost use Rattle.cedar_gate_runs.specs.Printing.{uids_text, round_line, decided_line, cause_words, error_line, impossible_lines, reason_lines, answered_lines, concrete_lines, named_line};
 
 use crate::stops::RunFault;
 use crate::transcript::{Entry, Transcript};
@@ -54,7 +54,7 @@ fn push_named(out: &mut String, word: &str, id: &PolicyID) -> Result<(), AllocEr
 
 /// The lines of the impossible policies, in their order.
 pub fn push_warnings(out: &mut String, ids: &[PolicyID]) -> Result<(), AllocError>
-    ensures { OnOk result (string_bytes out.new ≡ string_bytes out.old ++ flat_map (λ id. named_line (codes "impossible") id) (map id_text ids.now)) }
+    ensures { OnOk result (string_bytes out.new ≡ string_bytes out.old ++ impossible_lines (map id_text ids.now)) }
 {
     for id in ids {
         push_named(out, "impossible", id)?;
@@ -105,7 +105,7 @@ fn push_error(out: &mut String, error: &AuthorizationError) -> Result<(), AllocE
 
 // The lines of the reasons, in their order.
 fn push_reasons(out: &mut String, response: &Response) -> Result<(), AllocError>
-    ensures { OnOk result (string_bytes out.new ≡ string_bytes out.old ++ flat_map (λ id. named_line (codes "reason") id) (answer_of response.now).reasons) }
+    ensures { OnOk result (string_bytes out.new ≡ string_bytes out.old ++ reason_lines (answer_of response.now).reasons) }
 {
     for id in response.diagnostics.reason.as_slice() {
         push_named(out, "reason", id)?;
@@ -189,7 +189,7 @@ pub fn push_answered(
     transcript: &Transcript,
     response: &Response,
 ) -> Result<(), AllocError>
-    ensures { OnOk result (string_bytes out.new ≡ string_bytes out.old ++ (lines.entry_lines 1 (entries_of transcript.now.entries.items) ++ concrete_lines (answer_of response.now))) }
+    ensures { OnOk result (string_bytes out.new ≡ string_bytes out.old ++ answered_lines transcript.now response.now) }
 {
     push_entries(out, transcript.entries.as_slice())?;
     push_answer(out, response)
@@ -210,7 +210,7 @@ fn refusal(fault: &RunFault) -> Option<(&'static str, u32)>
 
 /// The lines of a run that was refused. Fails when out of memory, and where the run ended so or with a fault of its host.
 pub fn push_stopped(out: &mut String, fault: &RunFault) -> Result<(), AllocError>
-    ensures { OnOk result (Some (string_bytes out.new) ≡ option_map (λ end. string_bytes out.old ++ (lines.entry_lines 1 (entries_of (run_fault_transcript fault.now).entries.items) ++ end)) (refusal_line fault.now)) }
+    ensures { OnOk result (Some (string_bytes out.new) ≡ text_refused (string_bytes out.old) fault.now) }
 {
     let Some((word, number)) = refusal(fault) else {
         return Err(AllocError);

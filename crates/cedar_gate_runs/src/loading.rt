@@ -1,17 +1,16 @@
 //! Loading: rounds of what is wanted.
 
-ghost use Rattle.std.specs.Prelude.{◌≡◌, ◌<◌, ◌++◌, ◌∷◌, ◌⊎◌, [], List, IfOk, IfErr, OnOk, OnErr, map};
+ghost use Rattle.std.specs.Prelude.{◌≡◌, ◌<◌, ◌++◌, ◌∷◌, [], IfOk, IfErr, OnOk, OnErr, map};
 ghost use Rattle.cedar_expr_names.specs.Views.{uid_of};
-ghost use Rattle.cedar_expr_model.specs.Uid.{Uid};
-ghost use Rattle.cedar_gate_model.specs.Runs.{supplied_by, with_asked};
-ghost use Rattle.cedar_gate_model.specs.RunsAnswer.{Course, session_of};
-ghost use Rattle.cedar_gate_model.specs.Session.{State, IsWantedList, SupplyRefusal, SupplyFault};
+ghost use Rattle.cedar_gate_model.specs.RunsAnswer.{session_of};
+ghost use Rattle.cedar_gate_model.specs.Session.{IsWantedList};
 ghost use Rattle.cedar_gate_runs.specs.Transcripts.{entries_of};
-ghost use Rattle.cedar_gate_runs.specs.Asking.{rounds_of, AskedRounds, AskedBeyond};
+ghost use Rattle.cedar_gate_runs.specs.Asking.{AskedBeyond};
 ghost use Rattle.cedar_gate_runs.specs.Counting.{count_after};
-ghost use Rattle.cedar_gate_runs.specs.Courses.{IsHost, HostStays};
-ghost use Rattle.cedar_gate_runs.specs.Lost.{AskedLast, StopsLoading};
-ghost use Rattle.cedar_gate_runs.specs.Running.{Went, DidLoad, DidLoadAll, StopsSupply, StopsLoad, HaltsLoading};
+ghost use Rattle.cedar_gate_runs.specs.Courses.{HostStays};
+ghost use Rattle.cedar_gate_runs.specs.Lost.{AskedLast, AskedAtMost};
+ghost use Rattle.cedar_gate_runs.specs.Running.{StopsLoad};
+ghost use Rattle.cedar_gate_runs.specs.States.{AsksRounds, AsksBeyond, AtEachState, OverHost, IsAfterRound, TakesRound, RefusesRound, WentByLoad, WentByRounds, HaltsRounds, LosesOneRound};
 
 use crate::sessions::SessionCalls;
 use crate::stops_with::Stop;
@@ -32,10 +31,10 @@ fn take_in<E: SessionCalls, H: Host>(
     ensures counted { IfErr result (λ stop. H.faults host.new ≡ count_after stop (H.faults host.old)) }
     ensures asked { OnOk result (H.asked host.new ≡ H.asked host.old ++ map uid_of wanted.now ∷ []) }
     ensures beyond { IfErr result (AskedBeyond (H.asked host.old) (H.asked host.new)) }
-    ensures last { OnErr result ((H.asked host.new ≡ H.asked host.old) ⊎ (H.asked host.new ≡ H.asked host.old ++ map uid_of wanted.now ∷ [])) }
-    ensures at { OnOk result ((c : Course) (s : State) → E.stands c s session.old → IsHost H.honest H.store c s [] host.old → IsWantedList (session_of c) s (map uid_of wanted.now) → map uid_of wanted.now ≡ E.wants session.old → E.stands c (with_asked s (map uid_of wanted.now)) session.new) }
-    ensures taken { OnOk result ((c : Course) (s : State) → E.stands c s session.old → IsHost H.honest H.store c s [] host.old → (f : SupplyRefusal) → SupplyFault (session_of c) s (supplied_by (session_of c) (map uid_of wanted.now)) f → ⊥) }
-    ensures refused { IfErr result (λ stop. (c : Course) (s : State) → E.stands c s session.old → IsHost H.honest H.store c s [] host.old → StopsSupply (session_of c) s (supplied_by (session_of c) (map uid_of wanted.now)) stop) }
+    ensures last { OnErr result (AskedAtMost (H.asked host.old) (H.asked host.new) (map uid_of wanted.now)) }
+    ensures at { OnOk result (OverHost E.stands H.honest H.store session.old host.old (IsAfterRound E.stands E.wants session.old session.new wanted.now)) }
+    ensures taken { OnOk result (OverHost E.stands H.honest H.store session.old host.old (TakesRound wanted.now)) }
+    ensures refused { IfErr result (λ stop. OverHost E.stands H.honest H.store session.old host.old (RefusesRound wanted.now stop)) }
 {
     let supplied = host.fetch(alloc, wanted)?;
     match session.supply(alloc, supplied) {
@@ -47,7 +46,7 @@ fn take_in<E: SessionCalls, H: Host>(
 // A copy of what is wanted.
 fn copy_wanted<E: SessionCalls>(alloc: Global, session: &E) -> Result<Vec<EntityUID>, AllocError>
     ensures wanted { IfOk result (λ copy. map uid_of copy.items ≡ E.wants session.now) }
-    ensures exact { IfOk result (λ copy. (c : Course) (s : State) → E.stands c s session.now → IsWantedList (session_of c) s (map uid_of copy.items)) }
+    ensures exact { IfOk result (λ copy. AtEachState E.stands session.now (λ c s. IsWantedList (session_of c) s (map uid_of copy.items))) }
 {
     copied(alloc, session.wanted())
 }
@@ -63,11 +62,11 @@ pub(crate) fn load<E: SessionCalls, H: Host>(
     ensures host { HostStays H.honest H.store host.old host.new }
     ensures faults { OnOk result (H.faults host.new ≡ H.faults host.old) }
     ensures counted { IfErr result (λ stop. H.faults host.new ≡ count_after stop (H.faults host.old)) }
-    ensures asked { OnOk result ((first : List (List Uid)) → AskedRounds first (H.asked host.old) (entries_of entries.old.items) → AskedRounds first (H.asked host.new) (entries_of entries.new.items)) }
+    ensures asked { OnOk result (AsksRounds (H.asked host.old) (H.asked host.new) entries.old entries.new) }
     ensures beyond { IfErr result (AskedBeyond (H.asked host.old) (H.asked host.new)) }
-    ensures last { OnErr result ((c : Course) (s : State) → E.stands c s session.old → AskedLast (session_of c) s (H.asked host.old) (H.asked host.new)) }
-    ensures did { IfOk result (λ b. (c : Course) (s : State) → E.stands c s session.old → IsHost H.honest H.store c s [] host.old → Went (E.stands c) (DidLoad (session_of c) s b) (entries_of entries.old.items) (entries_of entries.new.items) session.new) }
-    ensures stopped { IfErr result (λ stop. (c : Course) (s : State) → E.stands c s session.old → IsHost H.honest H.store c s [] host.old → StopsLoad (session_of c) s stop) }
+    ensures last { OnErr result (AtEachState E.stands session.old (λ c s. AskedLast (session_of c) s (H.asked host.old) (H.asked host.new))) }
+    ensures did { IfOk result (λ b. OverHost E.stands H.honest H.store session.old host.old (WentByLoad E.stands b entries.old entries.new session.new)) }
+    ensures stopped { IfErr result (λ stop. OverHost E.stands H.honest H.store session.old host.old (λ c s. StopsLoad (session_of c) s stop)) }
     ensures unchanged { OnErr result (entries_of entries.new.items ≡ entries_of entries.old.items) }
 {
     let wanted = copy_wanted(alloc, session)?;
@@ -91,11 +90,11 @@ pub(crate) fn load_all<E: SessionCalls, H: Host>(
     ensures host { HostStays H.honest H.store host.old host.new }
     ensures faults { OnOk result (H.faults host.new ≡ H.faults host.old) }
     ensures counted { IfErr result (λ stop. H.faults host.new ≡ count_after stop (H.faults host.old)) }
-    ensures asked { OnOk result ((first : List (List Uid)) → AskedRounds first (H.asked host.old) (entries_of entries.old.items) → AskedRounds first (H.asked host.new) (entries_of entries.new.items)) }
-    ensures beyond { IfErr result (λ stop. (first : List (List Uid)) → AskedRounds first (H.asked host.old) (entries_of entries.old.items) → AskedBeyond (first ++ rounds_of (entries_of entries.new.items)) (H.asked host.new) stop) }
-    ensures last { OnErr result ((c : Course) (s : State) (first : List (List Uid)) → E.stands c s session.old → IsHost H.honest H.store c s [] host.old → AskedRounds first (H.asked host.old) (entries_of entries.old.items) → StopsLoading (session_of c) s (entries_of entries.old.items) (entries_of entries.new.items) first (H.asked host.new)) }
-    ensures did { OnOk result ((c : Course) (s : State) → E.stands c s session.old → IsHost H.honest H.store c s [] host.old → Went (E.stands c) (DidLoadAll (session_of c) s) (entries_of entries.old.items) (entries_of entries.new.items) session.new) }
-    ensures stopped { IfErr result (λ stop. (c : Course) (s : State) → E.stands c s session.old → IsHost H.honest H.store c s [] host.old → HaltsLoading (session_of c) s (entries_of entries.old.items) (entries_of entries.new.items) stop) }
+    ensures asked { OnOk result (AsksRounds (H.asked host.old) (H.asked host.new) entries.old entries.new) }
+    ensures beyond { IfErr result (λ stop. AsksBeyond (H.asked host.old) (H.asked host.new) entries.old entries.new stop) }
+    ensures last { OnErr result (LosesOneRound E.stands H.honest H.store H.asked session.old host.old host.new entries.old entries.new) }
+    ensures did { OnOk result (OverHost E.stands H.honest H.store session.old host.old (WentByRounds E.stands entries.old entries.new session.new)) }
+    ensures stopped { IfErr result (λ stop. OverHost E.stands H.honest H.store session.old host.old (HaltsRounds entries.old entries.new stop)) }
 {
     for _round in 0..u64::from(session.level()) + 1 {
         if !load(alloc, session, host, entries)? {

@@ -1,7 +1,8 @@
 //! Writing a text out.
 
-ghost use Rattle.std.specs.Prelude.{◌≡◌, ◌<◌, ◌≤◌, ℕ, [], OnOk, OnErr, IfOk, IfErr, take, length};
+ghost use Rattle.std.specs.Prelude.{◌≤◌, [], OnOk, OnErr, IfOk, IfErr, take, length};
 ghost use Rattle.std.specs.Io.KnownBytes.{Appends};
+ghost use Rattle.cedar_gate_runs.specs.Printing.{AppendsBeginning};
 
 use std::io::{ErrorKind, Write};
 
@@ -36,7 +37,7 @@ fn write_once<W: Write>(writer: &mut W, text: &[u8]) -> Result<usize, WriteFault
 /// Where a call of `write` fails or takes no byte. The writer then holds a beginning of the text, and not all of it.
 pub fn write_out<W: Write>(writer: &mut W, text: &[u8]) -> Result<(), WriteFault>
     ensures written { OnOk result (Appends (W.contents writer.old) (W.contents writer.new) text.now) }
-    ensures fault { IfErr result (λ _. (n : ℕ) × (n < length text.now) × Appends (W.contents writer.old) (W.contents writer.new) (take n text.now)) }
+    ensures fault { IfErr result (λ _. AppendsBeginning (W.contents writer.old) (W.contents writer.new) text.now) }
 {
     let mut done = 0;
     for _turn in 0..u64::MAX {

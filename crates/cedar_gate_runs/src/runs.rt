@@ -1,19 +1,18 @@
 //! Runs: steps over a session and a host, up to the answer.
 
-ghost use Rattle.std.specs.Prelude.{◌≡◌, ◌<◌, ◌++◌, true, [], ℕ, List, None, is_some, IfOk, IfErr, OnOk, OnErr};
+ghost use Rattle.std.specs.Prelude.{◌≡◌, ◌<◌, true, [], ℕ, None, is_some, IfOk, IfErr, OnOk, OnErr};
 ghost use Rattle.cedar_evaluator_requests.specs.Views.{answer_of};
-ghost use Rattle.cedar_expr_model.specs.Uid.{Uid};
 ghost use Rattle.cedar_gate_model.specs.RunsAnswer.{Course, session_of, IsAdmitted, AnswerFairly};
-ghost use Rattle.cedar_gate_model.specs.Session.{State, at_start, NothingIsWanted, OpenRefusal, OpenFault};
+ghost use Rattle.cedar_gate_model.specs.Session.{NothingIsWanted};
 ghost use Rattle.cedar_gate_runs.specs.Transcripts.{entries_of};
-ghost use Rattle.cedar_gate_runs.specs.Asking.{rounds_of, AskedRounds, IsBeyond, AskedBeyond, AskedBy, entries_done};
+ghost use Rattle.cedar_gate_runs.specs.Asking.{IsBeyond, StopsAsked, entries_done};
 ghost use Rattle.cedar_gate_runs.specs.Counting.{count_after, KeepsCount, run_count, HostSaw};
-ghost use Rattle.cedar_gate_runs.specs.Courses.{IsHost, BindRepresented, IsRunBy};
-ghost use Rattle.cedar_gate_runs.specs.Ends.{IsStopped, IsRunOf};
-ghost use Rattle.cedar_gate_runs.specs.Lost.{StopsAt, AsksWell};
+ghost use Rattle.cedar_gate_runs.specs.Courses.{InEachRun, CourseOpens};
+ghost use Rattle.cedar_gate_runs.specs.Ends.{HasStoppedBy, IsStopped, IsRunOf};
+ghost use Rattle.cedar_gate_runs.specs.Lost.{AsksWell};
 ghost use Rattle.cedar_gate_runs.specs.Promised.{KeepsRun};
-ghost use Rattle.cedar_gate_runs.specs.Steps.{steps_of};
-ghost use Rattle.cedar_gate_runs.specs.Stopping.{Finished, IsRefused, HasStopped, Halts, ComesTo};
+ghost use Rattle.cedar_gate_runs.specs.States.{AsksRounds, AsksBeyond, AtEachState, OverSteps, ComesToAnswer, HaltsSteps, IsRefusedAt, LosesOneInSteps};
+ghost use Rattle.cedar_gate_runs.specs.Stopping.{Finished};
 ghost use Rattle.cedar_gate_runs.specs.Stops.{run_fault_transcript};
 
 use crate::loading::load_all;
@@ -29,8 +28,8 @@ use std::alloc::Global;
 
 // The answer of a session, of which nothing is wanted.
 fn finish<E: SessionCalls>(alloc: Global, session: &E) -> Result<Response, Stop>
-    ensures answered { IfOk result (λ r. (c : Course) (s : State) → E.stands c s session.now → NothingIsWanted (session_of c) s → Finished c s (answer_of r)) }
-    ensures stopped { IfErr result (λ stop. (c : Course) (s : State) → E.stands c s session.now → NothingIsWanted (session_of c) s → IsRefused (session_of c) c.submission.policies s [] [] stop) }
+    ensures answered { IfOk result (λ r. AtEachState E.stands session.now (λ c s. NothingIsWanted (session_of c) s → Finished c s (answer_of r))) }
+    ensures stopped { IfErr result (λ stop. AtEachState E.stands session.now (λ c s. NothingIsWanted (session_of c) s → IsRefusedAt c s [] [] stop)) }
     ensures alone { IfErr result (λ stop. IsBeyond stop []) }
     ensures counted { IfErr result KeepsCount }
 {
@@ -49,13 +48,13 @@ fn follow<E: SessionCalls, H: Host>(
     entries: &mut Vec<Entry>,
 ) -> Result<Response, Stop>
     requires { H.faults host.old < u64.MAX }
-    ensures answered { IfOk result (λ r. (c : Course) (s : State) → E.stands c s session.old → IsHost H.honest H.store c s (steps_of steps.items) host.old → BindRepresented c (steps_of steps.items) → ComesTo (session_of c) c.submission.policies s (steps_of steps.items) (entries_of entries.old.items) (entries_of entries.new.items) (answer_of r)) }
-    ensures stopped { IfErr result (λ stop. (c : Course) (s : State) → E.stands c s session.old → IsHost H.honest H.store c s (steps_of steps.items) host.old → BindRepresented c (steps_of steps.items) → Halts (session_of c) c.submission.policies s (steps_of steps.items) (entries_of entries.old.items) (entries_of entries.new.items) stop) }
-    ensures asked { OnOk result ((first : List (List Uid)) → AskedRounds first (H.asked host.old) (entries_of entries.old.items) → AskedRounds first (H.asked host.new) (entries_of entries.new.items)) }
-    ensures beyond { IfErr result (λ stop. (first : List (List Uid)) → AskedRounds first (H.asked host.old) (entries_of entries.old.items) → AskedBeyond (first ++ rounds_of (entries_of entries.new.items)) (H.asked host.new) stop) }
+    ensures answered { IfOk result (λ r. OverSteps E.stands H.honest H.store session.old host.old steps (ComesToAnswer entries.old entries.new (answer_of r))) }
+    ensures stopped { IfErr result (λ stop. OverSteps E.stands H.honest H.store session.old host.old steps (HaltsSteps entries.old entries.new stop)) }
+    ensures asked { OnOk result (AsksRounds (H.asked host.old) (H.asked host.new) entries.old entries.new) }
+    ensures beyond { IfErr result (λ stop. AsksBeyond (H.asked host.old) (H.asked host.new) entries.old entries.new stop) }
     ensures faults { OnOk result (H.faults host.new ≡ H.faults host.old) }
     ensures counted { IfErr result (λ stop. H.faults host.new ≡ count_after stop (H.faults host.old)) }
-    ensures last { OnErr result ((c : Course) (s : State) (first : List (List Uid)) → E.stands c s session.old → IsHost H.honest H.store c s (steps_of steps.items) host.old → BindRepresented c (steps_of steps.items) → AskedRounds first (H.asked host.old) (entries_of entries.old.items) → StopsAt c s (steps_of steps.items) (entries_of entries.old.items) (entries_of entries.new.items) first (H.asked host.new)) }
+    ensures last { OnErr result (LosesOneInSteps E.stands H.honest H.store H.asked session.old host.old host.new steps entries.old entries.new) }
 {
     take_steps(alloc, session, steps, host, entries)?;
     load_all(alloc, session, host, entries)?;
@@ -64,8 +63,8 @@ fn follow<E: SessionCalls, H: Host>(
 
 // A run that stopped with these entries.
 fn stopped(stop: Stop, entries: Vec<Entry>) -> RunFault
-    ensures asked { (first asked : List (List Uid)) → AskedBeyond (first ++ rounds_of (entries_of entries.items)) asked stop → AskedBy first asked result }
-    ensures stopped { (c : Course) → ((f : OpenRefusal) → OpenFault c.start f → ⊥) → HasStopped (session_of c) c.submission.policies at_start c.steps (entries_of entries.items) stop → IsStopped c result }
+    ensures asked { StopsAsked (entries_of entries.items) stop result }
+    ensures stopped { (c : Course) → CourseOpens c → HasStoppedBy c (entries_of entries.items) stop → IsStopped c result }
     ensures entries { entries_done result ≡ entries_of entries.items }
     ensures no_answer { (run_fault_transcript result).answer ≡ None }
     ensures counted { (n : ℕ) → run_count result n ≡ count_after stop n }
@@ -101,10 +100,10 @@ pub fn run_session<E: SessionCalls + Drop, H: Host>(
     host: &mut H,
 ) -> Result<Transcript, RunFault>
     requires { H.faults host.old < u64.MAX }
-    ensures run { (c : Course) → IsRunBy E.stands session steps.items H.honest H.store host.old c → IsRunOf c result }
-    ensures promises { (c : Course) → IsRunBy E.stands session steps.items H.honest H.store host.old c → IsAdmitted c → AnswerFairly c.functions → KeepsRun c result }
+    ensures run { InEachRun E.stands session steps.items H.honest H.store host.old (λ c. IsRunOf c result) }
+    ensures promises { InEachRun E.stands session steps.items H.honest H.store host.old (λ c. IsAdmitted c → AnswerFairly c.functions → KeepsRun c result) }
     ensures host { HostSaw (H.asked host.old) (H.asked host.new) (H.faults host.old) (H.faults host.new) result }
-    ensures asked { (c : Course) → IsRunBy E.stands session steps.items H.honest H.store host.old c → AsksWell c (H.asked host.old) (H.asked host.new) result }
+    ensures asked { InEachRun E.stands session steps.items H.honest H.store host.old (λ c. AsksWell c (H.asked host.old) (H.asked host.new) result) }
     ensures answered { IfOk result (λ t. is_some t.answer ≡ true) }
     ensures no_answer { IfErr result (λ f. (run_fault_transcript f).answer ≡ None) }
 {

@@ -1,22 +1,18 @@
 //! What steps do.
 
-ghost use Rattle.std.specs.Prelude.{◌≡◌, ◌<◌, ◌++◌, [], ◌∷◌, List, IfOk, IfErr, OnOk, OnErr};
+ghost use Rattle.std.specs.Prelude.{◌≡◌, ◌<◌, [], ◌∷◌, IfErr, OnOk, OnErr};
 ghost use Rattle.std.specs.Rc.{rc_str_bytes};
 ghost use Rattle.cedar_expr_values.specs.Extensions.{extension_of};
 ghost use Rattle.cedar_expr_values.specs.Values.{made};
-ghost use Rattle.cedar_expr_model.specs.OfLaws.Represented.{IsRepresented};
-ghost use Rattle.cedar_expr_model.specs.Uid.{Uid};
-ghost use Rattle.cedar_gate_model.specs.RunsAnswer.{Course, session_of};
-ghost use Rattle.cedar_gate_model.specs.Session.{State, with_bound, BindRefusal, BindFault};
+ghost use Rattle.cedar_gate_model.specs.RunsAnswer.{session_of};
 ghost use Rattle.cedar_gate_model.specs.Transcript as model;
 ghost use Rattle.cedar_gate_runs.specs.Transcripts.{entries_of};
-ghost use Rattle.cedar_gate_runs.specs.Asking.{rounds_of, AskedRounds, IsBeyond, AskedBeyond};
+ghost use Rattle.cedar_gate_runs.specs.Asking.{IsBeyond, AskedBeyond, rounds_of};
 ghost use Rattle.cedar_gate_runs.specs.Counting.{count_after, KeepsCount};
-ghost use Rattle.cedar_gate_runs.specs.Courses.{IsHost, HostStays, BindRepresented, DidSteps};
-ghost use Rattle.cedar_gate_runs.specs.Lost.{AskedLast, StopsAt};
-ghost use Rattle.cedar_gate_runs.specs.Running.{Went};
-ghost use Rattle.cedar_gate_runs.specs.Steps.{step_of, steps_of};
-ghost use Rattle.cedar_gate_runs.specs.Stopping.{IsRefused, Halts};
+ghost use Rattle.cedar_gate_runs.specs.Courses.{HostStays, TakesBinding};
+ghost use Rattle.cedar_gate_runs.specs.Lost.{AskedLast};
+ghost use Rattle.cedar_gate_runs.specs.States.{AsksRounds, AsksBeyond, AtEachState, OverHost, OverSteps, IsAfterBinding, WentByBinding, WentByStep, WentBySteps, RefusesStep, RefusesStepOver, HaltsSteps, LosesOneInSteps};
+ghost use Rattle.cedar_gate_runs.specs.Steps.{step_of};
 ghost use Rattle.cedar_gate_runs.specs.declared.stops_with.Stop.TheVariants.{Memory};
 
 use crate::loading::load;
@@ -35,9 +31,9 @@ fn bind_in<E: SessionCalls>(
     name: RcStr,
     value: Value<ExtValue>,
 ) -> Result<(), Stop>
-    ensures at { OnOk result ((c : Course) (s : State) → E.stands c s session.old → IsRepresented c.functions.table (made extension_of value) → E.stands c (with_bound s (rc_str_bytes name) (made extension_of value)) session.new) }
-    ensures taken { OnOk result ((c : Course) (s : State) → E.stands c s session.old → (f : BindRefusal) → BindFault (session_of c) s (rc_str_bytes name) (made extension_of value) f → ⊥) }
-    ensures stopped { IfErr result (λ stop. (c : Course) (s : State) (rest : List model.Step) → E.stands c s session.old → IsRefused (session_of c) c.submission.policies s (model.bind_name (rc_str_bytes name) (made extension_of value) ∷ rest) [] stop) }
+    ensures at { OnOk result (IsAfterBinding E.stands session.old session.new (rc_str_bytes name) (made extension_of value)) }
+    ensures taken { OnOk result (AtEachState E.stands session.old (λ c s. TakesBinding c s (rc_str_bytes name) (made extension_of value))) }
+    ensures stopped { IfErr result (λ stop. RefusesStep E.stands session.old (model.bind_name (rc_str_bytes name) (made extension_of value)) stop) }
     ensures alone { IfErr result (λ stop. IsBeyond stop []) }
     ensures counted { IfErr result KeepsCount }
 {
@@ -55,8 +51,8 @@ fn bind_name<E: SessionCalls>(
     value: Value<ExtValue>,
     entries: &mut Vec<Entry>,
 ) -> Result<(), Stop>
-    ensures did { OnOk result ((c : Course) (s : State) → E.stands c s session.old → IsRepresented c.functions.table (made extension_of value) → Went (E.stands c) (DidSteps c s (model.bind_name (rc_str_bytes name) (made extension_of value) ∷ [])) (entries_of entries.old.items) (entries_of entries.new.items) session.new) }
-    ensures stopped { IfErr result (λ stop. (c : Course) (s : State) (rest : List model.Step) → E.stands c s session.old → IsRefused (session_of c) c.submission.policies s (model.bind_name (rc_str_bytes name) (made extension_of value) ∷ rest) [] stop) }
+    ensures did { OnOk result (WentByBinding E.stands session.old session.new (rc_str_bytes name) (made extension_of value) entries.old entries.new) }
+    ensures stopped { IfErr result (λ stop. RefusesStep E.stands session.old (model.bind_name (rc_str_bytes name) (made extension_of value)) stop) }
     ensures unchanged { OnErr result (entries_of entries.new.items ≡ entries_of entries.old.items) }
     ensures rounds { OnOk result (rounds_of (entries_of entries.new.items) ≡ rounds_of (entries_of entries.old.items)) }
     ensures alone { IfErr result (λ stop. IsBeyond stop []) }
@@ -71,7 +67,7 @@ fn bind_name<E: SessionCalls>(
 
 // Asks for the decision.
 fn decide<E: SessionCalls>(alloc: Global, session: &E, entries: &mut Vec<Entry>) -> Result<(), Stop>
-    ensures did { OnOk result ((c : Course) (s : State) → E.stands c s session.now → Went (E.stands c) (DidSteps c s (model.decide ∷ [])) (entries_of entries.old.items) (entries_of entries.new.items) session.now) }
+    ensures did { OnOk result (AtEachState E.stands session.now (λ c s. WentBySteps E.stands entries.old entries.new session.now c s (model.decide ∷ []))) }
     ensures stopped { IfErr result (λ stop. stop ≡ Memory) }
     ensures unchanged { OnErr result (entries_of entries.new.items ≡ entries_of entries.old.items) }
     ensures rounds { OnOk result (rounds_of (entries_of entries.new.items) ≡ rounds_of (entries_of entries.old.items)) }
@@ -94,11 +90,11 @@ fn take_step<E: SessionCalls, H: Host>(
     ensures host { HostStays H.honest H.store host.old host.new }
     ensures faults { OnOk result (H.faults host.new ≡ H.faults host.old) }
     ensures counted { IfErr result (λ stop. H.faults host.new ≡ count_after stop (H.faults host.old)) }
-    ensures asked { OnOk result ((first : List (List Uid)) → AskedRounds first (H.asked host.old) (entries_of entries.old.items) → AskedRounds first (H.asked host.new) (entries_of entries.new.items)) }
+    ensures asked { OnOk result (AsksRounds (H.asked host.old) (H.asked host.new) entries.old entries.new) }
     ensures beyond { IfErr result (AskedBeyond (H.asked host.old) (H.asked host.new)) }
-    ensures last { OnErr result ((c : Course) (s : State) → E.stands c s session.old → AskedLast (session_of c) s (H.asked host.old) (H.asked host.new)) }
-    ensures did { OnOk result ((c : Course) (s : State) → E.stands c s session.old → IsHost H.honest H.store c s [] host.old → BindRepresented c (step_of step ∷ []) → Went (E.stands c) (DidSteps c s (step_of step ∷ [])) (entries_of entries.old.items) (entries_of entries.new.items) session.new) }
-    ensures stopped { IfErr result (λ stop. (c : Course) (s : State) (rest : List model.Step) → E.stands c s session.old → IsHost H.honest H.store c s [] host.old → IsRefused (session_of c) c.submission.policies s (step_of step ∷ rest) [] stop) }
+    ensures last { OnErr result (AtEachState E.stands session.old (λ c s. AskedLast (session_of c) s (H.asked host.old) (H.asked host.new))) }
+    ensures did { OnOk result (OverHost E.stands H.honest H.store session.old host.old (WentByStep E.stands (step_of step) entries.old entries.new session.new)) }
+    ensures stopped { IfErr result (λ stop. RefusesStepOver E.stands H.honest H.store session.old host.old (step_of step) stop) }
     ensures unchanged { OnErr result (entries_of entries.new.items ≡ entries_of entries.old.items) }
 {
     match step {
@@ -123,11 +119,11 @@ pub(crate) fn take_steps<E: SessionCalls, H: Host>(
     ensures host { HostStays H.honest H.store host.old host.new }
     ensures faults { OnOk result (H.faults host.new ≡ H.faults host.old) }
     ensures counted { IfErr result (λ stop. H.faults host.new ≡ count_after stop (H.faults host.old)) }
-    ensures asked { OnOk result ((first : List (List Uid)) → AskedRounds first (H.asked host.old) (entries_of entries.old.items) → AskedRounds first (H.asked host.new) (entries_of entries.new.items)) }
-    ensures beyond { IfErr result (λ stop. (first : List (List Uid)) → AskedRounds first (H.asked host.old) (entries_of entries.old.items) → AskedBeyond (first ++ rounds_of (entries_of entries.new.items)) (H.asked host.new) stop) }
-    ensures last { OnErr result ((c : Course) (s : State) (first : List (List Uid)) → E.stands c s session.old → IsHost H.honest H.store c s (steps_of steps.items) host.old → BindRepresented c (steps_of steps.items) → AskedRounds first (H.asked host.old) (entries_of entries.old.items) → StopsAt c s (steps_of steps.items) (entries_of entries.old.items) (entries_of entries.new.items) first (H.asked host.new)) }
-    ensures did { OnOk result ((c : Course) (s : State) → E.stands c s session.old → IsHost H.honest H.store c s (steps_of steps.items) host.old → BindRepresented c (steps_of steps.items) → Went (E.stands c) (DidSteps c s (steps_of steps.items)) (entries_of entries.old.items) (entries_of entries.new.items) session.new) }
-    ensures stopped { IfErr result (λ stop. (c : Course) (s : State) → E.stands c s session.old → IsHost H.honest H.store c s (steps_of steps.items) host.old → BindRepresented c (steps_of steps.items) → Halts (session_of c) c.submission.policies s (steps_of steps.items) (entries_of entries.old.items) (entries_of entries.new.items) stop) }
+    ensures asked { OnOk result (AsksRounds (H.asked host.old) (H.asked host.new) entries.old entries.new) }
+    ensures beyond { IfErr result (λ stop. AsksBeyond (H.asked host.old) (H.asked host.new) entries.old entries.new stop) }
+    ensures last { OnErr result (LosesOneInSteps E.stands H.honest H.store H.asked session.old host.old host.new steps entries.old entries.new) }
+    ensures did { OnOk result (OverSteps E.stands H.honest H.store session.old host.old steps (WentBySteps E.stands entries.old entries.new session.new)) }
+    ensures stopped { IfErr result (λ stop. OverSteps E.stands H.honest H.store session.old host.old steps (HaltsSteps entries.old entries.new stop)) }
 {
     for step in steps {
         take_step(alloc, session, step, host, entries)?;

@@ -1,9 +1,9 @@
 //! A host that answers from a store of entities.
 
-ghost use Rattle.std.specs.Prelude.{◌≡◌, [], ◌∷◌, ◌++◌, map, is_ok, if◌then◌else◌, IfOk};
+ghost use Rattle.std.specs.Prelude.{◌≡◌, [], map, IfOk};
 ghost use Rattle.cedar_expr_names.specs.Views.{uid_of};
 ghost use Rattle.cedar_store_entities.specs.Stores.{store_made};
-ghost use Rattle.cedar_gate_runs.specs.Hosts.{answered_of, answer_from, failures_after, stored};
+ghost use Rattle.cedar_gate_runs.specs.Hosts.{AreAnswersFrom, answered_of, answer_from, asked_after, failures_after, stored};
 ghost use Rattle.cedar_gate_runs.specs.Stores.{store_of, store_asked};
 
 use crate::host::{Host, HostFault};
@@ -62,7 +62,7 @@ fn answer_all(
     entities: &Entities,
     uids: &[EntityUID],
 ) -> Result<Vec<(EntityUID, Option<Entity>)>, AllocError>
-    ensures { IfOk result (λ answers. map answered_of answers.items ≡ map (answer_from (stored (store_made entities.now))) (map uid_of uids.now)) }
+    ensures { IfOk result (λ answers. AreAnswersFrom (stored (store_made entities.now)) (map uid_of uids.now) answers.items) }
 {
     let mut answers = Vec::with_capacity(alloc, uids.len())?;
     for uid in uids {
@@ -102,9 +102,9 @@ impl Host for StoreHost {
         ids: &[EntityUID],
     ) -> Result<Vec<(EntityUID, Option<Entity>)>, HostFault>
         ensures store { store_of self.new ≡ store_of self.old }
-        ensures asked { store_asked self.new ≡ (if is_ok result then store_asked self.old ++ map uid_of ids.now ∷ [] else store_asked self.old) }
+        ensures asked { store_asked self.new ≡ asked_after result (store_asked self.old) (map uid_of ids.now) }
         ensures faults { failures_after result 0 ≡ 0 }
-        ensures answers { IfOk result (λ answers. map answered_of answers.items ≡ map (answer_from (store_of self.old)) (map uid_of ids.now)) }
+        ensures answers { IfOk result (λ answers. AreAnswersFrom (store_of self.old) (map uid_of ids.now) answers.items) }
     {
         let answers = answer_all(alloc, &self.entities, ids).map_err(|_| HostFault::Memory)?;
         let copy = copied(alloc, ids).map_err(|_| HostFault::Memory)?;

@@ -15,7 +15,7 @@ use Rattle.cedar_schema_model.specs.Schema.{Schema, declares_action}
 use Rattle.cedar_gate_wanted.specs.Kept.{IsKept}
 use Rattle.cedar_gate_wanted.specs.Rows.{row_of, uids}
 use Rattle.cedar_gate_model.specs.Session.{Setup, State, at_start, known_now}
-use Rattle.cedar_gate_model.specs.Slice.{roots, mentioned_by_found}
+use Rattle.cedar_typechecker_model.specs.Slice.{roots, mentioned_by_found}
 use Rattle.cedar_gate_wanted.specs.Laws.{IsLoadedAt}
 use Rattle.cedar_gate_wanted.specs.Wanting.{IsWanting, IsSameLoading, is_open, near_in, rows_in, mentions_of, wanted_in}
 use Rattle.cedar_gate_wanted.specs.declared.loading.Loading.{Loading}

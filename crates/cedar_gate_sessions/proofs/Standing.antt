@@ -30,7 +30,7 @@ use Rattle.cedar_gate_openings.specs.Names.{bound_in}
 use Rattle.cedar_gate_wanted.specs.Kept.{IsKept}
 use Rattle.cedar_gate_model.specs.Runs.{with_asked, supplied_by}
 use Rattle.cedar_gate_model.specs.Session.{Setup, State, with_bound, IsWantedList, BindRefusal, BindFault, known_now}
-use Rattle.cedar_gate_model.specs.Slice.{roots}
+use Rattle.cedar_typechecker_model.specs.Slice.{roots}
 use Rattle.cedar_gate_openings.specs.Requests.{request_at}
 use Rattle.cedar_gate_wanted.specs.Laws.{IsLoadedAt, IsBoundMore}
 use Rattle.cedar_gate_wanted.specs.Supplying.{rows_of, keys_in, IsFilled, AreKeys}

@@ -16,7 +16,7 @@ use Rattle.cedar_schema_model.specs.ActionEntities.{action_ancestors}
 use Rattle.cedar_schema_model.specs.Schema.{Schema, declares_action}
 use Rattle.cedar_evaluator_model.specs.Known.{known_found, known_entity, known_parts}
 use Rattle.cedar_gate_model.specs.Session.{Setup, State, known_now, whole_store}
-use Rattle.cedar_gate_model.specs.Slice.{mentioned_by_found}
+use Rattle.cedar_typechecker_model.specs.Slice.{mentioned_by_found}
 use Rattle.cedar_gate_sessions.specs.Loaded.{AreActions, loaded_at, mentioned_there}
 use Rattle.cedar_gate_sessions.specs.Sessions.{extent_at}
 use Rattle.cedar_gate_sessions.proofs.Steady.{AreAlike, IsAlike, alike_self}

@@ -1,4 +1,4 @@
--- Policies beside their verdicts: those of an effect that are satisfied or open, and those that are picked.
+-- Policies beside their verdicts: those of an effect that are satisfied or residual, and those that are picked.
 -- Rule: partial responses; owed decisions (docs/RULES.md).
 use Rattle.std.specs.Prelude.{◌&&◌, Bool, List, map, Option, Some, None, if◌then◌else◌}
 use Rattle.std.specs.List.{filter_map}
@@ -17,7 +17,7 @@ use Rattle.cedar_gate_sessions.specs.Verdicts.{is_satisfied, is_open, has_effect
 abbrev pub bounds_of : Bounds → members.Bounds
 bounds_of b = record { must = map id_text b.must.items; may = map id_text b.may.items }
 
--- whether a policy has this effect and is satisfied, or is open
+-- whether a policy has this effect and is satisfied, or is residual
 abbrev pub satisfied_of : Effect → Policy × Verdict → Bool
 satisfied_of e p = has_effect e (policy_of p.0).effect && is_satisfied p.1
 

@@ -1,6 +1,6 @@
 -- The entities that a session loads, and what is supplied of them.
 -- Rule: sessions; the store (docs/RULES.md).
-use Rattle.std.specs.Prelude.{◌≡◌, ◌||◌, Bool, false, List, map, Option, option_map, option_to_list}
+use Rattle.std.specs.Prelude.{◌≡◌, ◌||◌, Bool, false, is_some, List, map, Option, option_map, option_to_list}
 use Rattle.std.specs.List.{flat_map}
 use Rattle.std.specs.declared.alloc.Global.{Global}
 use Rattle.std.specs.declared.vec.Vec.{Vec}
@@ -14,6 +14,8 @@ use Rattle.cedar_store_entities.specs.declared.entity.Entity.{Entity}
 use Rattle.cedar_store_model.specs.Store.{Store}
 use Rattle.cedar_store_model.specs.World as world
 use Rattle.cedar_gate_wanted.specs.Rows.{uids}
+use Rattle.cedar_gate_wanted.specs.Wanting.{rows_in}
+use Rattle.cedar_gate_wanted.specs.declared.loading.Loading.{Loading}
 use Rattle.cedar_gate_model.specs.Session.{Supplied}
 use Rattle.cedar_gate_sessions.specs.Loaded.{mentioned_there}
 
@@ -41,6 +43,10 @@ row_pair p = (uid_of p.0, uids p.1.items)
 
 abbrev pub mentions_pair : EntityUID × Option Entity → Uid × List Uid
 mentions_pair p = (uid_of p.0, mentioned_by_this p.1)
+
+-- whether a uid was asked for
+abbrev pub asked_in : Loading → Uid → Bool
+asked_in l = λ u. is_some (rows_in l u)
 
 -- One store is the other with absences recorded: of the uids for which the test holds, where there is no entity.
 pub record RecordsAbsences (lacks : Uid → Bool) (old new : Store) : Type 0 where

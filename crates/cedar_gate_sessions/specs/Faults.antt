@@ -54,7 +54,7 @@ abbrev pub answer_fault_number : AnswerFault → ℕ
 answer_fault_number f = option_map_or answer_number (answer_refusal f) 0
 
 -- Why a call of a session of the code is refused, whatever its table, its host and its entities are. Out of memory says nothing.
--- A supply, by the schema and by what is wanted: a uid isn't wanted, a wanted one lacks, one stands twice, or an entity is wrong.
+-- A supply, by the schema and by what is wanted: a uid isn't wanted, a wanted one is missing, one is given twice, or an entity is wrong.
 abbrev pub IsSupplyFaultBy : Schema → List Uid → Supplied → SupplyFault → Type 0
 IsSupplyFaultBy z wanted ps supplying.OutOfMemory = Unit {0}
 IsSupplyFaultBy z wanted ps supplying.NotWanted = IsUnfit wanted (keys_of ps) unfit.NotWanted

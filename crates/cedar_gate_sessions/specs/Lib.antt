@@ -5,8 +5,10 @@ pub mod Gates
 pub mod Loaded
 pub mod Requests
 pub mod Sessions
+pub mod Known
 pub mod Refused
 pub mod Answers
+pub mod Evaluations
 pub mod Bounds
 pub mod Laws
 pub mod Outcomes

@@ -11,7 +11,7 @@ use Rattle.cedar_schema_model.specs.ActionEntities.{as_entity}
 use Rattle.cedar_schema_model.specs.Conforming.{entity_conforms}
 use Rattle.cedar_schema_model.specs.Schema.{Schema, declares_action}
 use Rattle.cedar_gate_model.specs.Session.{Setup, State}
-use Rattle.cedar_gate_model.specs.Slice.{mentioned_by_found}
+use Rattle.cedar_typechecker_model.specs.Slice.{mentioned_by_found}
 
 -- Two entities have the same attributes and tags, and the same ancestors in any order.
 pub record IsSame (d e : Entity V) : Type 0 where

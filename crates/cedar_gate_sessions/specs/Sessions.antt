@@ -6,6 +6,7 @@ use Rattle.std.specs.Map.{lookup}
 use Rattle.cedar_expr_model.specs.Name.{Text}
 use Rattle.cedar_expr_model.specs.Uid.{Uid, uid_eq}
 use Rattle.cedar_expr_model.specs.Made.{Made}
+use Rattle.cedar_expr_model.specs.OfLaws.Represented.{IsRepresented}
 use Rattle.cedar_expr_model.specs.Value.{V}
 use Rattle.cedar_expr_names.specs.declared.entity.EntityUID.{EntityUID}
 use Rattle.cedar_store_entities.specs.Views.{entity_pair, entity_seen, kept_pair}
@@ -22,7 +23,7 @@ use Rattle.cedar_evaluator_reads.specs.Scopes.{found_kept}
 use Rattle.cedar_evaluator_requests.specs.Views.{request_of}
 use Rattle.cedar_evaluator_requests.specs.declared.request.Request.{Request}
 use Rattle.cedar_gate_openings.specs.Names.{bound_in}
-use Rattle.cedar_gate_model.specs.Runs.{supplied_by}
+use Rattle.cedar_gate_model.specs.Runs.{supplied_by, with_asked}
 use Rattle.cedar_gate_model.specs.RunsAnswer.{IsOpened}
 use Rattle.cedar_gate_model.specs.RunsAsk.{IsMadeContext}
 use Rattle.cedar_gate_model.specs.Session.{Setup, State, value_of, with_bound, ContextFails}
@@ -91,6 +92,18 @@ pub record IsAt {G : Type 0} (suits : G → Setup → Type 0) (x : Setup) (s : S
   pub wanting : IsWanting x.schema e.loading
   pub near : IsLoadedAt x s e.loading
   pub loaded : AreLoaded x s e.loaded.items
+
+-- at each state that the session is at
+abbrev pub AtEachState : {G : Type 0} → (G → Setup → Type 0) → SessionAt G → (Setup → State → Type 0) → Type 0
+AtEachState suits e holds = (x : Setup) (s : State) → IsAt suits x s e → holds x s
+
+-- The second session is where a supply of all that is wanted leads from the first, if the supply is from the store.
+abbrev pub IsAfterSupply : {G : Type 0} → (G → Setup → Type 0) → SessionAt G → SessionAt G → List (EntityUID × Option Entity) → Type 0
+IsAfterSupply suits d e ps = AtEachState suits d (λ x s. AreFromStore x ps → IsAt suits x (with_asked s (wanted_of d)) e)
+
+-- The second session is where a binding leads from the first, if the extension values in it are what the calls of the table give.
+abbrev pub IsAfterBinding : {G : Type 0} → (G → Setup → Type 0) → SessionAt G → SessionAt G → Text → Made → Type 0
+IsAfterBinding suits d e n m = AtEachState suits d (λ x s. IsRepresented x.functions.table m → IsAt suits x (with_bound s n m) e)
 
 -- what is bound in a session, and the request that it was opened with
 abbrev pub bound_by : {G : Type 0} → SessionAt G → Text → Option Made

@@ -1,4 +1,4 @@
--- What is left of policies, by kinds, and the decision by them.
+-- What is left of policies, as verdicts, and the decision by them.
 -- Rule: partial responses; owed decisions (docs/RULES.md).
 use Rattle.std.specs.Prelude.{◌&&◌, ◌||◌, Bool, true, false, not, ℕ, List, map, Option, Some, None, if◌then◌else◌}
 use Rattle.cedar_expr_model.specs.Made.{made_prim}
@@ -12,7 +12,7 @@ use Rattle.cedar_store_parts.specs.declared.policy_id.Effect.TheVariants.{Permit
 use Rattle.cedar_gate_sessions.specs.declared.kinds.Verdict.{Verdict}
 use Rattle.cedar_gate_sessions.specs.declared.kinds.Verdict.TheVariants.{Satisfied, Open, Not, Limit}
 
--- what kind of verdict that is
+-- the verdict that this is
 abbrev pub kind_of : Left → Verdict
 kind_of (value_left (made_prim (truth true))) = Satisfied
 kind_of (residual r) = Open
@@ -42,7 +42,7 @@ has_effect Permit model.forbid = false
 has_effect Forbid model.permit = false
 has_effect Forbid model.forbid = true
 
--- The decision by whether there are satisfied permits, open ones, satisfied forbids, open ones.
+-- The decision by whether there are satisfied permits, residual ones, satisfied forbids, residual ones.
 abbrev pub decided_by_any : Bool → Bool → Bool → Bool → Option Decision
 decided_by_any permits open_permits true open_forbids = Some deny
 decided_by_any true open_permits false true = None
@@ -50,7 +50,7 @@ decided_by_any true open_permits false false = Some allow
 decided_by_any false true false open_forbids = None
 decided_by_any false false false open_forbids = Some deny
 
--- Whether a policy must determine the decision, where this is known: some forbid is satisfied, some forbid is open.
+-- Whether a policy must determine the decision, where this is known: some forbid is satisfied, some forbid is residual.
 abbrev pub must_by : Bool → Bool → model.Effect → Verdict → Bool
 must_by forbids open_forbids e v = is_satisfied v && (if forbids then has_effect Forbid e else (not open_forbids && has_effect Permit e))
 

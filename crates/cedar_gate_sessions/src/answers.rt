@@ -1,24 +1,13 @@
 //! Answers over a whole store.
 
-ghost use Rattle.std.specs.Prelude.{◌≡◌, ◌++◌, ℕ, ◌&&◌, IfOk, OnOk, Err, All, [], map, not, if◌then◌else◌};
-ghost use Rattle.std.specs.List.{cons_option};
+ghost use Rattle.std.specs.Prelude.{◌≡◌, ◌&&◌, IfOk, OnOk, Err, map, not, if◌then◌else◌};
 ghost use Rattle.cedar_expr_model.specs.ListLaws.{AreDistinct};
-ghost use Rattle.cedar_store_model.specs.Policy.{no_bindings};
-ghost use Rattle.cedar_store_model.specs.Answer as model;
-ghost use Rattle.cedar_store_model.specs.Answer.{ids, allow, deny};
-ghost use Rattle.cedar_evaluator_model.specs.Known.{known_world};
-ghost use Rattle.cedar_evaluator_model.specs.Laws.{WithinLimit, as_concrete};
-ghost use Rattle.cedar_evaluator_model.specs.OfLaws.Calls.{Agrees};
-ghost use Rattle.cedar_evaluator_model.specs.OfLaws.Whole.{NothingUnknown, AllLoaded};
-ghost use Rattle.cedar_evaluator_model.specs.Response.{verdict as verdict_of};
-ghost use Rattle.cedar_evaluator_model.specs.Scope.{Scope, Left};
-ghost use Rattle.cedar_evaluator_errors.specs.Calls.{Functions};
-ghost use Rattle.cedar_evaluator_core.specs.Evaluators.{limit_of, scope_in, table_in, IsTruthOf};
-ghost use Rattle.cedar_evaluator_requests.specs.Views.{error_of, answer_of, decision_of};
+ghost use Rattle.cedar_store_model.specs.Answer.{allow, deny};
+ghost use Rattle.cedar_evaluator_model.specs.Scope.{Left};
+ghost use Rattle.cedar_evaluator_core.specs.Evaluators.{IsTruthOf};
+ghost use Rattle.cedar_evaluator_requests.specs.Views.{decision_of};
 ghost use Rattle.cedar_store_parts.specs.Parts.{id_text};
-ghost use Rattle.cedar_store_policies.specs.Policies.{policy_of};
-ghost use Rattle.cedar_gate_sessions.specs.Answers.{asked, if_erring, errors_left, answered};
-ghost use Rattle.cedar_gate_sessions.specs.Verdicts.{kind_of, verdicts_of};
+ghost use Rattle.cedar_gate_sessions.specs.Evaluations.{InEachScope, ByVerdictsAndErrors, WhereAllIsKnown, HaveDistinctIds, IsAnswered, IsMeant, AreErrors, AppendsError, AppendsErrorOf, verdicts_over, verdict_on};
 
 use crate::bounds::must_ids;
 use crate::evaluations::kind;
@@ -40,8 +29,8 @@ pub fn respond<T: FunctionTable>(
     evaluator: &Evaluator<'_, T>,
     policies: &[Policy],
 ) -> Result<Response, AllocError>
-    ensures left { (fs : Functions) → T.answers_as (table_in evaluator.now) fs.calls → AreDistinct (ids (map policy_of policies.now)) → IfOk result (λ r. answer_of r ≡ answered (scope_in T.table fs evaluator.now no_bindings) (limit_of evaluator.now) (map policy_of policies.now)) }
-    ensures meaning { (fs : Functions) → T.answers_as (table_in evaluator.now) fs.calls → AreDistinct (ids (map policy_of policies.now)) → Agrees (scope_in T.table fs evaluator.now no_bindings) → NothingUnknown (scope_in T.table fs evaluator.now no_bindings) → AllLoaded (scope_in T.table fs evaluator.now no_bindings) → All (WithinLimit (scope_in T.table fs evaluator.now no_bindings) (limit_of evaluator.now)) (map policy_of policies.now) → IfOk result (λ r. answer_of r ≡ as_concrete (model.answer_of (known_world (scope_in T.table fs evaluator.now no_bindings)) (map policy_of policies.now))) }
+    ensures left { InEachScope T.answers_as T.table evaluator.now (λ s n. HaveDistinctIds policies.now → IfOk result (λ r. IsAnswered s n policies.now r)) }
+    ensures meaning { InEachScope T.answers_as T.table evaluator.now (λ s n. WhereAllIsKnown s n policies.now (IfOk result (λ r. IsMeant s policies.now r))) }
 {
     let (verdicts, errors) = evaluate(alloc, evaluator, policies)?;
     response(alloc, policies, verdicts.as_slice(), errors)
@@ -53,8 +42,8 @@ fn evaluate<T: FunctionTable>(
     evaluator: &Evaluator<'_, T>,
     policies: &[Policy],
 ) -> Result<(Vec<Verdict>, Vec<AuthorizationError>), AllocError>
-    ensures verdicts { (fs : Functions) → T.answers_as (table_in evaluator.now) fs.calls → IfOk result (λ r. r.0.items ≡ verdicts_of (scope_in T.table fs evaluator.now no_bindings) (limit_of evaluator.now) (map policy_of policies.now)) }
-    ensures errors { (fs : Functions) → T.answers_as (table_in evaluator.now) fs.calls → IfOk result (λ r. map error_of r.1.items ≡ errors_left (scope_in T.table fs evaluator.now no_bindings) (limit_of evaluator.now) (map policy_of policies.now)) }
+    ensures verdicts { InEachScope T.answers_as T.table evaluator.now (λ s n. IfOk result (λ r. r.0.items ≡ verdicts_over s n policies.now)) }
+    ensures errors { InEachScope T.answers_as T.table evaluator.now (λ s n. IfOk result (λ r. AreErrors s n policies.now r.1.items)) }
 {
     let mut verdicts = Vec::new(alloc);
     let mut errors = Vec::new(alloc);
@@ -64,15 +53,15 @@ fn evaluate<T: FunctionTable>(
     Ok((verdicts, errors))
 }
 
-// The verdict on the policy; its error, if it has one, goes to the end of the errors. Fails only when out of memory.
+// The verdict on the policy; its error, if it has one, is appended to the errors. Fails only when out of memory.
 fn add<T: FunctionTable>(
     alloc: Global,
     evaluator: &Evaluator<'_, T>,
     policy: &Policy,
     errors: &mut Vec<AuthorizationError>,
 ) -> Result<Verdict, AllocError>
-    ensures verdict { (fs : Functions) → T.answers_as (table_in evaluator.now) fs.calls → IfOk result (λ v. v ≡ kind_of (verdict_of (scope_in T.table fs evaluator.now no_bindings) (limit_of evaluator.now) (policy_of policy.now))) }
-    ensures errors { (fs : Functions) → T.answers_as (table_in evaluator.now) fs.calls → OnOk result (map error_of errors.new.items ≡ map error_of errors.old.items ++ cons_option (if_erring (policy_of policy.now) (asked (scope_in T.table fs evaluator.now no_bindings) (limit_of evaluator.now) (policy_of policy.now))) []) }
+    ensures verdict { InEachScope T.answers_as T.table evaluator.now (λ s n. IfOk result (λ v. v ≡ verdict_on s n policy.now)) }
+    ensures errors { InEachScope T.answers_as T.table evaluator.now (λ s n. OnOk result (AppendsErrorOf s n policy.now errors.old.items errors.new.items)) }
 {
     let outcome = evaluator.evaluate(alloc, policy);
     let verdict = kind(&outcome)?;
@@ -80,13 +69,13 @@ fn add<T: FunctionTable>(
     Ok(verdict)
 }
 
-// Puts the error of the policy, if it has one, at the end. Fails only when out of memory.
+// Appends the error of the policy, if it has one. Fails only when out of memory.
 fn put_error(
     policy: &Policy,
     outcome: Result<bool, EvaluationError>,
     errors: &mut Vec<AuthorizationError>,
 ) -> Result<(), AllocError>
-    ensures { (l : Left) → IsTruthOf l outcome → OnOk result (map error_of errors.new.items ≡ map error_of errors.old.items ++ cons_option (if_erring (policy_of policy.now) l) []) }
+    ensures { (l : Left) → IsTruthOf l outcome → OnOk result (AppendsError policy.now l errors.old.items errors.new.items) }
 {
     match outcome {
         Ok(_) => Ok(()),
@@ -94,13 +83,13 @@ fn put_error(
     }
 }
 
-// Puts this error of the policy at the end. Fails only when out of memory.
+// Appends this error of the policy. Fails only when out of memory.
 fn put(
     policy: &Policy,
     error: EvaluationError,
     errors: &mut Vec<AuthorizationError>,
 ) -> Result<(), AllocError>
-    ensures { (l : Left) → IsTruthOf l (Err error) → OnOk result (map error_of errors.new.items ≡ map error_of errors.old.items ++ cons_option (if_erring (policy_of policy.now) l) []) }
+    ensures { (l : Left) → IsTruthOf l (Err error) → OnOk result (AppendsError policy.now l errors.old.items errors.new.items) }
 {
     if error.is_out_of_memory() {
         return Err(AllocError);
@@ -117,7 +106,7 @@ fn response(
     verdicts: &[Verdict],
     errors: Vec<AuthorizationError>,
 ) -> Result<Response, AllocError>
-    ensures { (s : Scope) (n : ℕ) → verdicts.now ≡ verdicts_of s n (map policy_of policies.now) → map error_of errors.items ≡ errors_left s n (map policy_of policies.now) → AreDistinct (ids (map policy_of policies.now)) → IfOk result (λ r. answer_of r ≡ answered s n (map policy_of policies.now)) }
+    ensures { ByVerdictsAndErrors policies.now verdicts.now errors.items (λ s n. IfOk result (λ r. IsAnswered s n policies.now r)) }
 {
     let forbids = any_satisfied(Effect::Forbid, policies, verdicts);
     let permits = any_satisfied(Effect::Permit, policies, verdicts);

@@ -1,20 +1,17 @@
 //! What names are bound to, and the request with it.
 
-ghost use Rattle.std.specs.Prelude.{◌≡◌, ◌++◌, List, Some, None, IfOk, IfErr, OnOk, OnErr, if◌then◌else◌};
+ghost use Rattle.std.specs.Prelude.{◌≡◌, Some, None, IfOk, IfErr, OnOk, OnErr};
 ghost use Rattle.std.specs.Rc.{rc_str_bytes};
-ghost use Rattle.std.specs.Str.{bytes_eq};
 ghost use Rattle.cedar_expr_model.specs.Name.{Text};
-ghost use Rattle.cedar_expr_model.specs.Uid.{Uid};
 ghost use Rattle.cedar_expr_values.specs.Extensions.{extension_of};
 ghost use Rattle.cedar_expr_values.specs.Values.{made};
 ghost use Rattle.cedar_evaluator_requests.specs.Views.{request_of};
-ghost use Rattle.cedar_gate_openings.specs.Names.{bound_in};
-ghost use Rattle.cedar_gate_wanted.specs.Kept.{IsKept};
-ghost use Rattle.cedar_gate_model.specs.Session.{Setup, State, ContextFails};
-ghost use Rattle.cedar_gate_openings.specs.Requests.{request_at, AreValuesOf};
+ghost use Rattle.cedar_gate_openings.specs.Bound.{IsRequestBy, ContextFailsBy, ContextEvaluatesBy};
+ghost use Rattle.cedar_gate_openings.specs.Names.{bound_in, Rebinds};
 ghost use Rattle.cedar_gate_openings.specs.Roots.{known_roots};
-ghost use Rattle.cedar_gate_wanted.specs.Wanting.{IsWanting, IsSameLoading, near_in, mentions_of, level_of};
+ghost use Rattle.cedar_gate_wanted.specs.Wanting.{IsWanting, IsSameLoading, RootsAreAdded, level_of};
 ghost use Rattle.cedar_gate_sessions.specs.Faults.{IsContextFault};
+ghost use Rattle.cedar_gate_sessions.specs.Gates.{ForEachSetup};
 
 use crate::gates::{GateCalls, Schema};
 use cedar_evaluator_requests::Request;
@@ -30,7 +27,7 @@ pub(crate) fn put_value(
     name: RcStr,
     value: V,
 ) -> Result<(), AllocError>
-    ensures put { OnOk result ((k : Text) → bound_in bound.new k ≡ (if bytes_eq (rc_str_bytes name) k then Some (made extension_of value) else bound_in bound.old k)) }
+    ensures put { OnOk result (Rebinds (rc_str_bytes name) (Some (made extension_of value)) (bound_in bound.old) (bound_in bound.new)) }
     ensures unchanged { OnErr result ((k : Text) → bound_in bound.new k ≡ bound_in bound.old k) }
 {
     bound.insert(name, value)?;
@@ -39,7 +36,7 @@ pub(crate) fn put_value(
 
 /// Takes away what the name is bound to.
 pub(crate) fn take_value(bound: &mut HashMap<RcStr, V>, name: &str)
-    ensures { (k : Text) → bound_in bound.new k ≡ (if bytes_eq name.now k then None else bound_in bound.old k) }
+    ensures { Rebinds name.now None (bound_in bound.old) (bound_in bound.new) }
 {
     bound.remove(name);
 }
@@ -52,7 +49,7 @@ pub(crate) fn add_known_roots<S: Schema>(
     loading: &mut Loading,
 ) -> Result<(), AllocError>
     ensures wanting { OnOk result (IsWanting (S.schema schema.now) loading.old → IsWanting (S.schema schema.now) loading.new) }
-    ensures kept { OnOk result ((r : List Uid) → IsKept r (mentions_of loading.old) (level_of loading.old) (near_in loading.old) → IsKept (r ++ known_roots (request_of request.now)) (mentions_of loading.new) (level_of loading.new) (near_in loading.new)) }
+    ensures kept { OnOk result (RootsAreAdded loading.old loading.new (known_roots (request_of request.now))) }
     ensures rows { loading.new.rows ≡ loading.old.rows }
     ensures level { level_of loading.new ≡ level_of loading.old }
     ensures unchanged { OnErr result (IsSameLoading loading.old loading.new) }
@@ -73,13 +70,13 @@ pub(crate) fn request_bound<G: GateCalls>(
     bound: &HashMap<RcStr, V>,
     loading: &mut Loading,
 ) -> Result<Request, BindFault>
-    ensures now { IfOk result (λ q. (x : Setup) → G.suits gate.now x → (s : State) → AreValuesOf s (bound_in bound.now) → request_of q ≡ request_at x.functions s (request_of start.now)) }
-    ensures evaluates { OnOk result ((x : Setup) → G.suits gate.now x → (s : State) → AreValuesOf s (bound_in bound.now) → ContextFails x.functions s (request_of start.now).context → ⊥) }
+    ensures now { IfOk result (λ q. ForEachSetup G.suits gate.now (λ x. IsRequestBy x.functions bound.now start.now q)) }
+    ensures evaluates { OnOk result (ForEachSetup G.suits gate.now (λ x. ContextEvaluatesBy x.functions bound.now start.now)) }
     ensures wanting { OnOk result (IsWanting (G.schema gate.now) loading.old → IsWanting (G.schema gate.now) loading.new) }
-    ensures kept { IfOk result (λ q. (r : List Uid) → IsKept r (mentions_of loading.old) (level_of loading.old) (near_in loading.old) → IsKept (r ++ known_roots (request_of q)) (mentions_of loading.new) (level_of loading.new) (near_in loading.new)) }
+    ensures kept { IfOk result (λ q. RootsAreAdded loading.old loading.new (known_roots (request_of q))) }
     ensures rows { loading.new.rows ≡ loading.old.rows }
     ensures level { level_of loading.new ≡ level_of loading.old }
-    ensures refused { IfErr result (IsContextFault ((x : Setup) → G.suits gate.now x → (s : State) → AreValuesOf s (bound_in bound.now) → ContextFails x.functions s (request_of start.now).context)) }
+    ensures refused { IfErr result (IsContextFault (ForEachSetup G.suits gate.now (λ x. ContextFailsBy x.functions bound.now start.now))) }
     ensures unchanged { OnErr result (IsSameLoading loading.old loading.new) }
 {
     let made = gate.request_now(alloc, start, bound)?;

@@ -1,16 +1,12 @@
 //! Bounds of what determines a decision.
 
-ghost use Rattle.std.specs.Prelude.{◌≡◌, ℕ, IfOk, map, option_map};
+ghost use Rattle.std.specs.Prelude.{◌≡◌, IfOk, map};
 ghost use Rattle.std.specs.List.{zip};
-ghost use Rattle.cedar_expr_model.specs.ListLaws.{AreDistinct};
-ghost use Rattle.cedar_store_model.specs.Answer.{ids};
-ghost use Rattle.cedar_evaluator_model.specs.Scope.{Scope};
-ghost use Rattle.cedar_evaluator_model.specs.Members.{bounds_in_session};
-ghost use Rattle.cedar_evaluator_model.specs.Response.{response_of};
 ghost use Rattle.cedar_store_parts.specs.Parts.{id_text};
 ghost use Rattle.cedar_store_policies.specs.Policies.{policy_of};
-ghost use Rattle.cedar_gate_sessions.specs.Bounds.{bounds_of, picked_ids};
-ghost use Rattle.cedar_gate_sessions.specs.Verdicts.{verdicts_of, must_by, may_by};
+ghost use Rattle.cedar_gate_sessions.specs.Bounds.{picked_ids};
+ghost use Rattle.cedar_gate_sessions.specs.Evaluations.{ByVerdicts, HaveDistinctIds, AreBounds};
+ghost use Rattle.cedar_gate_sessions.specs.Verdicts.{must_by, may_by};
 
 use crate::kinds::{
     Verdict, any_limit, any_open, any_satisfied, has_effect, is_open, is_satisfied,
@@ -34,7 +30,7 @@ pub fn bounded(
     policies: &[Policy],
     verdicts: &[Verdict],
 ) -> Result<Option<Bounds>, AllocError>
-    ensures { (s : Scope) (n : ℕ) → verdicts.now ≡ verdicts_of s n (map policy_of policies.now) → AreDistinct (ids (map policy_of policies.now)) → IfOk result (λ b. option_map bounds_of b ≡ bounds_in_session (map policy_of policies.now) (response_of s n (map policy_of policies.now))) }
+    ensures { ByVerdicts policies.now verdicts.now (λ s n. HaveDistinctIds policies.now → IfOk result (λ b. AreBounds s n policies.now b)) }
 {
     if any_limit(verdicts) {
         return Ok(None);
@@ -46,7 +42,7 @@ pub fn bounded(
     Ok(Some(Bounds { must, may }))
 }
 
-// Whether a policy of this verdict must determine the decision, by whether some forbid is satisfied, and whether one is open.
+// Whether a policy of this verdict must determine the decision, by whether some forbid is satisfied, and whether one is residual.
 fn must(forbids: bool, open_forbids: bool, policy: &Policy, verdict: Verdict) -> bool
     ensures { result ≡ must_by forbids open_forbids (policy_of policy.now).effect verdict }
 {

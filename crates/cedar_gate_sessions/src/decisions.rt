@@ -1,21 +1,18 @@
 //! Decisions.
 
-ghost use Rattle.std.specs.Prelude.{◌≡◌, ℕ, map, option_map, None, if◌then◌else◌};
-ghost use Rattle.cedar_evaluator_model.specs.Scope.{Scope};
-ghost use Rattle.cedar_evaluator_model.specs.Members.{decision_in_session};
-ghost use Rattle.cedar_evaluator_model.specs.Response.{response_of};
+ghost use Rattle.std.specs.Prelude.{◌≡◌, option_map, None, if◌then◌else◌};
 ghost use Rattle.cedar_evaluator_requests.specs.Views.{decision_of};
-ghost use Rattle.cedar_store_policies.specs.Policies.{policy_of};
-ghost use Rattle.cedar_gate_sessions.specs.Verdicts.{verdicts_of, decided_by_any};
+ghost use Rattle.cedar_gate_sessions.specs.Evaluations.{ByVerdicts, decision_over};
+ghost use Rattle.cedar_gate_sessions.specs.Verdicts.{decided_by_any};
 
 use crate::kinds::{Verdict, any_limit, any_open, any_satisfied};
 use cedar_evaluator_requests::Decision;
 use cedar_store_parts::Effect;
 use cedar_store_policies::Policy;
 
-/// The decision by what is left of each policy: none where a policy met the limit; else the one that the open policies can't change.
+/// The decision by what is left of each policy: none where a policy met the limit; else the one that the residual policies can't change.
 pub fn decided(policies: &[Policy], verdicts: &[Verdict]) -> Option<Decision>
-    ensures { (s : Scope) (n : ℕ) → verdicts.now ≡ verdicts_of s n (map policy_of policies.now) → option_map decision_of result ≡ decision_in_session (response_of s n (map policy_of policies.now)) }
+    ensures { ByVerdicts policies.now verdicts.now (λ s n. option_map decision_of result ≡ decision_over s n policies.now) }
 {
     let limit = any_limit(verdicts);
     let permits = any_satisfied(Effect::Permit, policies, verdicts);
@@ -25,7 +22,7 @@ pub fn decided(policies: &[Policy], verdicts: &[Verdict]) -> Option<Decision>
     by_any(limit, permits, open_permits, forbids, open_forbids)
 }
 
-// The decision by whether there are policies that met the limit, satisfied permits, open ones, satisfied forbids, open ones.
+// The decision by whether there are policies that met the limit, satisfied permits, residual ones, satisfied forbids, residual ones.
 fn by_any(
     limit: bool,
     permits: bool,

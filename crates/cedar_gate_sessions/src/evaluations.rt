@@ -1,15 +1,12 @@
 //! What is left of policies, by evaluation.
 
-ghost use Rattle.std.specs.Prelude.{◌≡◌, IfOk, Err, map};
-ghost use Rattle.cedar_store_model.specs.Policy.{no_bindings};
-ghost use Rattle.cedar_store_policies.specs.Policies.{policy_of};
-ghost use Rattle.cedar_evaluator_model.specs.Response.{verdict as verdict_of};
+ghost use Rattle.std.specs.Prelude.{◌≡◌, IfOk, Err};
 ghost use Rattle.cedar_evaluator_model.specs.Scope.{Left};
 ghost use Rattle.cedar_evaluator_model.specs.Steps.{truth_left};
-ghost use Rattle.cedar_evaluator_errors.specs.Calls.{Functions};
-ghost use Rattle.cedar_evaluator_core.specs.Evaluators.{limit_of, scope_in, table_in, IsTruthOf};
+ghost use Rattle.cedar_evaluator_core.specs.Evaluators.{IsTruthOf};
+ghost use Rattle.cedar_gate_sessions.specs.Evaluations.{InEachScope, verdicts_over, verdict_on};
 ghost use Rattle.cedar_gate_sessions.specs.Outcomes.{error_kind};
-ghost use Rattle.cedar_gate_sessions.specs.Verdicts.{kind_of, verdicts_of};
+ghost use Rattle.cedar_gate_sessions.specs.Verdicts.{kind_of};
 
 use crate::kinds::Verdict;
 use cedar_evaluator_core::Evaluator;
@@ -24,7 +21,7 @@ pub fn verdicts<T: FunctionTable>(
     evaluator: &Evaluator<'_, T>,
     policies: &[Policy],
 ) -> Result<Vec<Verdict>, AllocError>
-    ensures { (fs : Functions) → T.answers_as (table_in evaluator.now) fs.calls → IfOk result (λ vs. vs.items ≡ verdicts_of (scope_in T.table fs evaluator.now no_bindings) (limit_of evaluator.now) (map policy_of policies.now)) }
+    ensures { InEachScope T.answers_as T.table evaluator.now (λ s n. IfOk result (λ vs. vs.items ≡ verdicts_over s n policies.now)) }
 {
     let mut all = Vec::new(alloc);
     for policy in policies {
@@ -39,7 +36,7 @@ pub fn verdict<T: FunctionTable>(
     evaluator: &Evaluator<'_, T>,
     policy: &Policy,
 ) -> Result<Verdict, AllocError>
-    ensures { (fs : Functions) → T.answers_as (table_in evaluator.now) fs.calls → IfOk result (λ v. v ≡ kind_of (verdict_of (scope_in T.table fs evaluator.now no_bindings) (limit_of evaluator.now) (policy_of policy.now))) }
+    ensures { InEachScope T.answers_as T.table evaluator.now (λ s n. IfOk result (λ v. v ≡ verdict_on s n policy.now)) }
 {
     let outcome = evaluator.evaluate(alloc, policy);
     kind(&outcome)

@@ -15,10 +15,10 @@ pub enum SupplyFault {
     /// A uid isn't wanted.
     #[error("a uid is supplied that is not wanted")]
     NotWanted,
-    /// A wanted uid lacks.
+    /// A wanted uid is missing.
     #[error("a wanted uid is not supplied")]
     Lacking,
-    /// A uid stands twice.
+    /// A uid is given twice.
     #[error("a uid is supplied twice")]
     Repeated,
     /// An entity has another uid, or doesn't conform to the schema.

@@ -1,22 +1,15 @@
 //! What sessions ask of the gate that they borrow.
 
 ghost use Rattle.std.specs.Prelude.{◌≡◌, true, false, List, IfOk, map};
-ghost use Rattle.cedar_expr_model.specs.Made.{Made};
-ghost use Rattle.cedar_expr_model.specs.Uid.{Uid};
 ghost use Rattle.cedar_schema_model.specs.Conforming.{entity_conforms, request_conforms};
 ghost use Rattle.cedar_store_entities.specs.Views.{entity_uid, entity_of, entity_pair};
-ghost use Rattle.cedar_store_model.specs.Answer.{ids};
 ghost use Rattle.cedar_store_model.specs.Policy.{Policy as ModelPolicy};
-ghost use Rattle.cedar_store_model.specs.World.{Found};
 ghost use Rattle.cedar_store_policies.specs.Policies.{policy_of};
-ghost use Rattle.cedar_expr_model.specs.ListLaws.{AreDistinct};
 ghost use Rattle.cedar_evaluator_model.specs.OfLaws.WellMade.{MakeValues};
-ghost use Rattle.cedar_evaluator_requests.specs.Views.{request_of, answer_of};
-ghost use Rattle.cedar_gate_model.specs.Session.{Setup, State, ContextFails, scope_now};
-ghost use Rattle.cedar_gate_openings.specs.Names.{bound_in};
-ghost use Rattle.cedar_gate_openings.specs.Requests.{request_at, AreValuesOf};
-ghost use Rattle.cedar_gate_sessions.specs.Answers.{answered};
-ghost use Rattle.cedar_gate_sessions.specs.Gates.{IsKnown};
+ghost use Rattle.cedar_evaluator_requests.specs.Views.{request_of};
+ghost use Rattle.cedar_gate_model.specs.Session.{Setup};
+ghost use Rattle.cedar_gate_openings.specs.Bound.{IsRequestBy, ContextFailsBy, ContextEvaluatesBy};
+ghost use Rattle.cedar_gate_sessions.specs.Gates.{ForEachSetup, WhereKnown, AnswersDistinct};
 ghost use Rattle.cedar_gate_sessions.specs.Loaded.{HasActions};
 ghost use Rattle.cedar_gate_sessions.specs.Requests.{known_request};
 ghost use Rattle.cedar_gate_sessions.specs.Verdicts.{verdicts_of};
@@ -72,9 +65,9 @@ pub trait GateCalls: Schema {
         start: &Request,
         bound: &HashMap<RcStr, V>,
     ) -> Result<(Request, bool), AllocError>
-        ensures at_state { IfOk result (λ r. (x : Setup) → suits self.now x → (s : State) → AreValuesOf s (bound_in bound.now) → request_of r.0 ≡ request_at x.functions s (request_of start.now)) }
-        ensures fails { IfOk result (λ r. (x : Setup) → suits self.now x → r.1 ≡ true → (s : State) → AreValuesOf s (bound_in bound.now) → ContextFails x.functions s (request_of start.now).context) }
-        ensures evaluates { IfOk result (λ r. (x : Setup) → suits self.now x → r.1 ≡ false → (s : State) → AreValuesOf s (bound_in bound.now) → ContextFails x.functions s (request_of start.now).context → ⊥) };
+        ensures at_state { IfOk result (λ r. ForEachSetup suits self.now (λ x. IsRequestBy x.functions bound.now start.now r.0)) }
+        ensures fails { IfOk result (λ r. ForEachSetup suits self.now (λ x. r.1 ≡ true → ContextFailsBy x.functions bound.now start.now)) }
+        ensures evaluates { IfOk result (λ r. ForEachSetup suits self.now (λ x. r.1 ≡ false → ContextEvaluatesBy x.functions bound.now start.now)) };
 
     /// What is left of each policy by what is known, in their order. Fails only when out of memory.
     fn verdicts(
@@ -84,9 +77,9 @@ pub trait GateCalls: Schema {
         store: &Entities,
         bound: &HashMap<RcStr, V>,
     ) -> Result<Vec<Verdict>, AllocError>
-        ensures { IfOk result (λ vs. (x : Setup) (s : State) (found : Uid → Found Made) → suits self.now x → IsKnown x s found request store.now bound.now → vs.items ≡ verdicts_of (scope_now x s found) x.limit (accepted self.now)) };
+        ensures { IfOk result (λ vs. WhereKnown suits self.now request store.now bound.now (λ s n. vs.items ≡ verdicts_of s n (accepted self.now))) };
 
-    /// The answer by what is known, where what stays open counts as an error. Fails only when out of memory.
+    /// The answer by what is known, where each residual counts as an error. Fails only when out of memory.
     fn respond(
         &self,
         alloc: Global,
@@ -94,7 +87,7 @@ pub trait GateCalls: Schema {
         store: &Entities,
         bound: &HashMap<RcStr, V>,
     ) -> Result<Response, AllocError>
-        ensures { IfOk result (λ r. (x : Setup) (s : State) (found : Uid → Found Made) → suits self.now x → IsKnown x s found request store.now bound.now → AreDistinct (ids (accepted self.now)) → answer_of r ≡ answered (scope_now x s found) x.limit (accepted self.now)) };
+        ensures { IfOk result (λ r. WhereKnown suits self.now request store.now bound.now (λ s n. AnswersDistinct s n (accepted self.now) r)) };
 
     /// The functions of such a setup make values.
     ghost makes_values: { (g : Self) (x : Setup) → suits g x → MakeValues x.functions.calls };

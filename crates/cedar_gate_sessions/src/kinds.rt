@@ -14,7 +14,7 @@ use cedar_store_policies::Policy;
 pub enum Verdict {
     /// It is satisfied.
     Satisfied,
-    /// It is open: an expression is left.
+    /// It is residual: an expression is left.
     Open,
     /// It is false, or errs.
     Not,
@@ -50,7 +50,7 @@ pub(crate) fn is_satisfied(verdict: Verdict) -> bool
     }
 }
 
-// Whether it is open.
+// Whether it is residual.
 pub(crate) fn is_open(verdict: Verdict) -> bool
     ensures { result ≡ is_open verdict }
 {
@@ -82,7 +82,7 @@ pub(crate) fn any_satisfied(effect: Effect, policies: &[Policy], verdicts: &[Ver
         && is_satisfied(*verdict))
 }
 
-// Whether some policy of this effect is open.
+// Whether some policy of this effect is residual.
 pub(crate) fn any_open(effect: Effect, policies: &[Policy], verdicts: &[Verdict]) -> bool
     ensures { result ≡ list_any (open_of effect) (zip policies.now verdicts.now) }
 {

@@ -1,31 +1,22 @@
 //! Sessions.
 
-ghost use Rattle.std.specs.Prelude.{◌≡◌, IfOk, IfErr, OnOk, OnErr, map, option_map};
+ghost use Rattle.std.specs.Prelude.{◌≡◌, IfOk, IfErr, OnOk, OnErr, option_map};
 ghost use Rattle.std.specs.Rc.{rc_str_bytes};
 ghost use Rattle.cedar_expr_values.specs.Extensions.{extension_of};
 ghost use Rattle.cedar_expr_values.specs.Values.{made};
-ghost use Rattle.cedar_store_model.specs.Answer.{answer_of as answer_meant};
-ghost use Rattle.cedar_store_policies.specs.Policies.{policy_of};
-ghost use Rattle.cedar_evaluator_model.specs.Laws.{as_concrete};
-ghost use Rattle.cedar_evaluator_model.specs.Members.{bounds_in_session, decision_in_session};
-ghost use Rattle.cedar_expr_model.specs.OfLaws.Represented.{IsRepresented};
-ghost use Rattle.cedar_evaluator_model.specs.Response.{response_of};
 ghost use Rattle.cedar_evaluator_requests.specs.Views.{request_of, decision_of, answer_of};
-ghost use Rattle.cedar_expr_model.specs.ListLaws.{AreDistinct};
-ghost use Rattle.cedar_store_model.specs.Answer.{ids};
 ghost use Rattle.cedar_gate_openings.specs.Faults.{opens, IsOpenFault};
 ghost use Rattle.cedar_gate_sessions.specs.Bounds.{bounds_of};
-ghost use Rattle.cedar_gate_sessions.specs.Verdicts.{verdicts_of};
 ghost use Rattle.cedar_gate_wanted.specs.Rows.{uids};
-ghost use Rattle.cedar_gate_model.specs.Runs.{DecidesInPart, with_asked};
-ghost use Rattle.cedar_gate_model.specs.RunsAnswer.{Course, session_of, IsAdmitted, AnswerFairly};
 ghost use Rattle.cedar_gate_model.specs.Early.{KeepsDecision, KeepsBounds};
-ghost use Rattle.cedar_gate_model.specs.Session.{Setup, State, at_start, with_bound, scope_now, world_now, IsWantedList, NothingIsWanted, AnswerRefusal, AnswerFault as AnswerIsRefused};
-ghost use Rattle.cedar_gate_sessions.specs.Courses.{Stands};
+ghost use Rattle.cedar_gate_model.specs.Session.{Setup, at_start, IsWantedList};
+ghost use Rattle.cedar_gate_sessions.specs.Courses.{Stands, InEachCourseOf, InEachCourse, InEachFairCourse, InEachAdmittedCourse, WhereAnswerable};
+ghost use Rattle.cedar_gate_runs.specs.Courses.{DecidesCourse, answer_in};
 ghost use Rattle.cedar_gate_sessions.specs.Entities.{supplied_of};
 ghost use Rattle.cedar_gate_sessions.specs.Faults.{IsFitSupply, IsSupplyFaultBy, IsFitBinding};
+ghost use Rattle.cedar_gate_sessions.specs.Known.{AreVerdictsAt, IsDecisionAt, AreBoundsAt};
 ghost use Rattle.cedar_gate_sessions.specs.Refused.{IsRefusedBinding, HasAnswer, IsRefusedAnswer};
-ghost use Rattle.cedar_gate_sessions.specs.Sessions.{IsSetup, IsAt, IsSameSession, EvaluatesWith, AreFromStore, gate_of, wanted_of, start_of, bound_by, policies_in, store_in};
+ghost use Rattle.cedar_gate_sessions.specs.Sessions.{IsSetup, IsAt, IsSameSession, IsAfterSupply, IsAfterBinding, AtEachState, EvaluatesWith, gate_of, wanted_of, start_of, bound_by};
 
 use crate::bound::{add_known_roots, put_value, request_bound, take_value};
 use crate::entities::{known_store_of, store_of};
@@ -83,7 +74,7 @@ impl<'g, G: GateCalls> SessionAt<'g, G> {
     pub fn open(alloc: Global, gate: &'g G, request: Request) -> Result<SessionAt<'g, G>, OpenFault>
         ensures gate { IfOk result (λ e. gate_of e ≡ gate.entry.now) }
         ensures at { IfOk result (λ e. (x : Setup) → IsSetup G.suits x gate.entry.now request → IsAt G.suits x at_start e) }
-        ensures stands { IfOk result (λ e. (c : Course) → IsSetup G.suits (session_of c) gate.entry.now request → IsAdmitted c → AnswerFairly c.functions → G.accepted gate.entry.now ≡ c.submission.policies → Stands G.suits G.accepted c at_start e) }
+        ensures stands { IfOk result (λ e. InEachCourseOf G.suits G.accepted gate.entry.now request (λ c. Stands G.suits G.accepted c at_start e)) }
         ensures opens { OnOk result (opens (request_of request)) }
         ensures refused { IfErr result (IsOpenFault (request_of request)) }
     {
@@ -109,7 +100,7 @@ impl<'g, G: GateCalls> SessionAt<'g, G> {
     /// The uids that are wanted now, in their order.
     pub fn wanted(&self) -> &[EntityUID]
         ensures wanted { uids result.now ≡ wanted_of self.entry.now }
-        ensures exact { (x : Setup) (s : State) → IsAt G.suits x s self.entry.now → IsWantedList x s (wanted_of self.entry.now) }
+        ensures exact { AtEachState G.suits self.entry.now (λ x s. IsWantedList x s (wanted_of self.entry.now)) }
     {
         self.loading.wanted()
     }
@@ -118,13 +109,14 @@ impl<'g, G: GateCalls> SessionAt<'g, G> {
     ///
     /// # Errors
     ///
-    /// 1 a uid isn't wanted, 2 a wanted one lacks, 3 one stands twice, 4 an entity has another uid or doesn't conform; or out of memory.
+    /// 1 a uid isn't wanted, 2 a wanted one is missing, 3 one is given twice, 4 an entity has another uid or doesn't conform; or out
+    /// of memory.
     pub fn supply(
         &mut self,
         alloc: Global,
         supplied: Vec<(EntityUID, Option<Entity>)>,
     ) -> Result<(), SupplyFault>
-        ensures at { OnOk result ((x : Setup) (s : State) → IsAt G.suits x s self.old → AreFromStore x supplied.items → IsAt G.suits x (with_asked s (wanted_of self.old)) self.new) }
+        ensures at { OnOk result (IsAfterSupply G.suits self.old self.new supplied.items) }
         ensures taken { OnOk result (IsFitSupply (G.schema (gate_of self.old)) (wanted_of self.old) (supplied_of supplied.items)) }
         ensures refused { IfErr result (IsSupplyFaultBy (G.schema (gate_of self.old)) (wanted_of self.old) (supplied_of supplied.items)) }
         ensures unchanged { OnErr result (IsSameSession self.old self.new) }
@@ -156,7 +148,7 @@ impl<'g, G: GateCalls> SessionAt<'g, G> {
     /// 1 the name isn't open, 2 the value is against the annotation, 3 a variable gets no entity or `context` no record, 4 the context
     /// fails to evaluate with it; or out of memory.
     pub fn bind(&mut self, alloc: Global, name: RcStr, value: V) -> Result<(), BindFault>
-        ensures at { OnOk result ((x : Setup) (s : State) → IsAt G.suits x s self.old → IsRepresented x.functions.table (made extension_of value) → IsAt G.suits x (with_bound s (rc_str_bytes name) (made extension_of value)) self.new) }
+        ensures at { OnOk result (IsAfterBinding G.suits self.old self.new (rc_str_bytes name) (made extension_of value)) }
         ensures taken { OnOk result (IsFitBinding (start_of self.old) (bound_by self.old) (rc_str_bytes name) (made extension_of value)) }
         ensures evaluates { OnOk result (EvaluatesWith G.suits self.old (rc_str_bytes name) (made extension_of value)) }
         ensures refused { IfErr result (IsRefusedBinding G.suits self.old (rc_str_bytes name) (made extension_of value)) }
@@ -192,7 +184,7 @@ impl<'g, G: GateCalls> SessionAt<'g, G> {
 
     // What is left of each policy by what is known.
     fn verdicts(&self, alloc: Global) -> Result<Vec<Verdict>, AllocError>
-        ensures { IfOk result (λ vs. (x : Setup) (s : State) → IsAt G.suits x s self.entry.now → vs.items ≡ verdicts_of (scope_now x s (store_in self.entry.now)) x.limit (policies_in G.accepted self.entry.now)) }
+        ensures { IfOk result (λ vs. AtEachState G.suits self.entry.now (AreVerdictsAt G.accepted self.entry.now vs.items)) }
     {
         let entities = known_store_of(alloc, self.loaded.as_slice(), &self.loading)?;
         self.gate
@@ -202,9 +194,9 @@ impl<'g, G: GateCalls> SessionAt<'g, G> {
     /// The decision of evaluating the policies in part over what is known by now, if that decides. One that is given is that of every
     /// completion; one is given where what is known forces it, and once all is bound and loaded. Fails only when out of memory.
     pub fn decision(&self, alloc: Global) -> Result<Option<Decision>, AllocError>
-        ensures exact { IfOk result (λ d. (x : Setup) (s : State) → IsAt G.suits x s self.entry.now → option_map decision_of d ≡ decision_in_session (response_of (scope_now x s (store_in self.entry.now)) x.limit (policies_in G.accepted self.entry.now))) }
-        ensures in_part { IfOk result (λ d. (c : Course) (s : State) → IsAt G.suits (session_of c) s self.entry.now → policies_in G.accepted self.entry.now ≡ c.submission.policies → DecidesInPart (session_of c) c.submission.policies s (option_map decision_of d)) }
-        ensures kept { IfOk result (λ d. (c : Course) (s : State) → IsAt G.suits (session_of c) s self.entry.now → policies_in G.accepted self.entry.now ≡ c.submission.policies → IsAdmitted c → AnswerFairly c.functions → KeepsDecision c s (option_map decision_of d)) }
+        ensures exact { IfOk result (λ d. AtEachState G.suits self.entry.now (IsDecisionAt G.accepted self.entry.now (option_map decision_of d))) }
+        ensures in_part { IfOk result (λ d. InEachCourse G.suits G.accepted self.entry.now (λ c s. DecidesCourse c s (option_map decision_of d))) }
+        ensures kept { IfOk result (λ d. InEachFairCourse G.suits G.accepted self.entry.now (λ c s. KeepsDecision c s (option_map decision_of d))) }
     {
         uids_are_uids();
         decisions_are_kept();
@@ -215,8 +207,8 @@ impl<'g, G: GateCalls> SessionAt<'g, G> {
     /// What must and what may determine the decision, by what is known: bounds that are given hold in every completion, they are given where all
     /// is bound, and are the reasons of the answer where all that is looked up is known too. Fails only when out of memory.
     pub fn bounds(&self, alloc: Global) -> Result<Option<Bounds>, AllocError>
-        ensures exact { IfOk result (λ b. (x : Setup) (s : State) → IsAt G.suits x s self.entry.now → AreDistinct (ids (policies_in G.accepted self.entry.now)) → option_map bounds_of b ≡ bounds_in_session (policies_in G.accepted self.entry.now) (response_of (scope_now x s (store_in self.entry.now)) x.limit (policies_in G.accepted self.entry.now))) }
-        ensures kept { IfOk result (λ b. (c : Course) (s : State) → IsAt G.suits (session_of c) s self.entry.now → policies_in G.accepted self.entry.now ≡ c.submission.policies → IsAdmitted c → AnswerFairly c.functions → KeepsBounds c s (option_map bounds_of b)) }
+        ensures exact { IfOk result (λ b. AtEachState G.suits self.entry.now (AreBoundsAt G.accepted self.entry.now (option_map bounds_of b))) }
+        ensures kept { IfOk result (λ b. InEachFairCourse G.suits G.accepted self.entry.now (λ c s. KeepsBounds c s (option_map bounds_of b))) }
     {
         uids_are_uids();
         bounds_are_kept();
@@ -230,7 +222,7 @@ impl<'g, G: GateCalls> SessionAt<'g, G> {
     ///
     /// 1 something isn't bound, 2 something is wanted, 3 all is bound and the request doesn't conform; or out of memory.
     pub fn answer(&self, alloc: Global) -> Result<Response, AnswerFault>
-        ensures answer { IfOk result (λ r. (c : Course) (s : State) → IsAdmitted c → IsAt G.suits (session_of c) s self.entry.now → policies_in G.accepted self.entry.now ≡ c.submission.policies → answer_of r ≡ as_concrete (answer_meant (world_now (session_of c) s) c.submission.policies)) }
+        ensures answer { IfOk result (λ r. InEachAdmittedCourse G.suits G.accepted self.entry.now (λ c s. answer_of r ≡ answer_in c s)) }
         ensures given { OnOk result (HasAnswer G.schema self.entry.now) }
         ensures refused { IfErr result (IsRefusedAnswer G.schema self.entry.now) }
     {
@@ -258,7 +250,7 @@ impl<'g, G: GateCalls> SessionAt<'g, G> {
 
     // The answer over what is loaded.
     fn respond(&self, alloc: Global) -> Result<Response, AllocError>
-        ensures { IfOk result (λ r. (c : Course) (s : State) → IsAdmitted c → IsAt G.suits (session_of c) s self.entry.now → policies_in G.accepted self.entry.now ≡ c.submission.policies → NothingIsWanted (session_of c) s → ((f : AnswerRefusal) → AnswerIsRefused (session_of c) s f → ⊥) → answer_of r ≡ as_concrete (answer_meant (world_now (session_of c) s) c.submission.policies)) }
+        ensures { IfOk result (λ r. InEachAdmittedCourse G.suits G.accepted self.entry.now (λ c s. WhereAnswerable c s (answer_of r ≡ answer_in c s))) }
     {
         uids_are_uids();
         accepted_policies_are_fit();

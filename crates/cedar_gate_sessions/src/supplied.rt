@@ -52,7 +52,7 @@ pub(crate) fn parted(
     Ok((rows, entities))
 }
 
-// Puts what the uid mentions behind the others, and the entity, if there is one.
+// Appends what the uid mentions to the rows, and the entity to the entities, if there is one.
 fn put_part(
     alloc: Global,
     uid: EntityUID,
@@ -78,7 +78,7 @@ fn mentions(alloc: Global, entity: &Option<Entity>) -> Result<Vec<EntityUID>, Al
     }
 }
 
-// Puts the entity behind the others, if there is one.
+// Appends the entity, if there is one.
 fn put(entities: &mut Vec<Entity>, entity: Option<Entity>) -> Result<(), AllocError>
     ensures { OnOk result (entities.new.items ≡ entities.old.items ++ option_to_list entity) }
 {
@@ -91,18 +91,16 @@ fn put(entities: &mut Vec<Entity>, entity: Option<Entity>) -> Result<(), AllocEr
     }
 }
 
-ghost use Rattle.std.specs.Prelude.{IfErr, OnErr, List};
-ghost use Rattle.cedar_expr_model.specs.Uid.{Uid};
-ghost use Rattle.cedar_gate_wanted.specs.Kept.{IsKept};
+ghost use Rattle.std.specs.Prelude.{IfErr, OnErr};
 ghost use Rattle.cedar_gate_wanted.specs.Supplying.{rows_of, keys_in, IsFilled, AreKeys};
-ghost use Rattle.cedar_gate_wanted.specs.Wanting.{IsWanting, IsSameLoading, near_in, rows_in, mentions_of, wanted_in, level_of};
+ghost use Rattle.cedar_gate_wanted.specs.Wanting.{IsWanting, IsSameLoading, RootsAreKept, rows_in, wanted_in, level_of};
 ghost use Rattle.cedar_gate_sessions.specs.Faults.{IsTakingFault};
 
-/// Takes the rows in, and puts the entities behind the others.
+/// Takes the rows in, and appends the entities to what is loaded.
 ///
 /// # Errors
 ///
-/// 1 a uid isn't wanted, 2 a wanted one lacks, 3 one stands twice; or out of memory. All is as before then.
+/// 1 a uid isn't wanted, 2 a wanted one is missing, 3 one is given twice; or out of memory. All is as before then.
 pub(crate) fn take_in<S: Schema>(
     alloc: Global,
     schema: &S,
@@ -114,7 +112,7 @@ pub(crate) fn take_in<S: Schema>(
     ensures loaded { OnOk result (loaded.new.items ≡ loaded.old.items ++ entities.items) }
     ensures stays { OnErr result (loaded.new.items ≡ loaded.old.items) }
     ensures wanting { OnOk result (IsWanting (S.schema schema.now) loading.old → IsWanting (S.schema schema.now) loading.new) }
-    ensures kept { OnOk result (IsWanting (S.schema schema.now) loading.old → (r : List Uid) → IsKept r (mentions_of loading.old) (level_of loading.old) (near_in loading.old) → IsKept r (mentions_of loading.new) (level_of loading.new) (near_in loading.new)) }
+    ensures kept { OnOk result (IsWanting (S.schema schema.now) loading.old → RootsAreKept loading.old loading.new) }
     ensures filled { OnOk result (IsFilled (rows_of rows.items) (rows_in loading.old) (rows_in loading.new)) }
     ensures keys { OnOk result (AreKeys (wanted_in loading.old) (keys_in rows.items)) }
     ensures level { level_of loading.new ≡ level_of loading.old }

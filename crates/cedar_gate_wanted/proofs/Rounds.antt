@@ -17,7 +17,7 @@ use Rattle.cedar_expr_model.specs.Value.{V}
 use Rattle.cedar_schema_model.specs.Schema.{declares_action}
 use Rattle.cedar_gate_model.specs.Runs.{with_asked}
 use Rattle.cedar_gate_model.specs.Session.{Setup, State, known_now, whole_store}
-use Rattle.cedar_gate_model.specs.Slice.{roots, mentioned_by_found}
+use Rattle.cedar_typechecker_model.specs.Slice.{roots, mentioned_by_found}
 use Rattle.cedar_gate_wanted.specs.Near.{IsNear, IsBelow}
 use Rattle.cedar_gate_wanted.specs.Kept.{IsKept}
 use Rattle.cedar_gate_wanted.specs.Rows.{uids, row_of, found_at, mentions_in}

@@ -7,7 +7,7 @@ use Rattle.cedar_expr_model.proofs.Equality.{uid_eq-Decides}
 use Rattle.cedar_expr_model.proofs.Lists.{found-Decides}
 use Rattle.cedar_store_model.specs.World.{World}
 use Rattle.cedar_schema_model.specs.Schema.{Schema, declares_action}
-use Rattle.cedar_gate_model.specs.Slice as slice
+use Rattle.cedar_typechecker_model.specs.Slice as slice
 use Rattle.cedar_gate_model.specs.Session.{Setup, State, known_now, IsWantedList}
 use Rattle.cedar_gate_wanted.specs.Near as kept
 use Rattle.cedar_gate_wanted.specs.Kept.{IsKept}

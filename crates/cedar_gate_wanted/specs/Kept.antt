@@ -1,6 +1,6 @@
 -- Kept distances: what a map from keys to distances says.
 use Rattle.std.specs.Prelude.{◌≡◌, ◌⊎◌, ℕ, suc, List, Contains, Option, Some, ◌<◌, ◌≤◌, ◌↔◌}
-use Rattle.std.specs.Prelude.{[], ◌∷◌, IsSome}
+use Rattle.std.specs.Prelude.{[], ◌∷◌, ◌++◌, IsSome}
 use Rattle.cedar_gate_wanted.specs.Near.{IsNear, IsBelow}
 
 -- Up to n, the keys kept at distances below k are those that are near by chains of fewer than k steps, and nothing is kept at n or above.
@@ -52,3 +52,18 @@ pub record IsFollowed {K : Type 0} (m : K → List K) (f g : K → Option ℕ) (
 pub record IsLoaded {K : Type 0} (m o : K → List K) (loaded : List K) : Type 0 where
   pub more : (v x : K) → Contains (m v) x → Contains (o v) x
   pub same : (v : K) → Contains loaded v ⊎ (o v ≡ m v)
+
+-- Distances that are kept from some roots are kept from these besides; or by what the loaded keys mention now; or after what is yet to be
+-- followed is settled.
+abbrev pub AddsRoots : {K : Type 0} → List K → (K → List K) → ℕ → (K → Option ℕ) → (K → Option ℕ) → Type 0
+AddsRoots {K} added m n f g = (roots : List K) → IsKept roots m n f → IsKept (roots ++ added) m n g
+
+abbrev pub TakesLoaded : {K : Type 0} → List K → (K → List K) → ℕ → (K → Option ℕ) → (K → Option ℕ) → Type 0
+TakesLoaded {K} loaded o n f g = (roots : List K) (m : K → List K) → IsLoaded m o loaded → IsKept roots m n f → IsKept roots o n g
+
+abbrev pub Settles : {K : Type 0} → (K → List K) → ℕ → (K → Type 0) → (K → Option ℕ) → (K → Option ℕ) → Type 0
+Settles {K} m n P f g = (roots : List K) → IsSettling roots m n f P → IsKept roots m n g
+
+-- a log that undoes what led to g undoes what led to h, with what was added to it
+abbrev pub KeepsUndo : {K : Type 0} → List (K × Option ℕ) → List (K × Option ℕ) → (K → Option ℕ) → (K → Option ℕ) → Type 0
+KeepsUndo {K} old new g h = (f : K → Option ℕ) → IsUndo old f g → IsUndo new f h

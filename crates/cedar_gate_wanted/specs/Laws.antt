@@ -8,7 +8,7 @@ use Rattle.cedar_expr_names.specs.declared.entity.EntityUID.{EntityUID}
 use Rattle.cedar_gate_wanted.specs.Rows.{uids}
 use Rattle.cedar_gate_model.specs.Runs.{with_asked}
 use Rattle.cedar_gate_model.specs.Session.{Setup, State, known_now, whole_store, IsWantedList}
-use Rattle.cedar_gate_model.specs.Slice.{roots, mentioned_by_found}
+use Rattle.cedar_typechecker_model.specs.Slice.{roots, mentioned_by_found}
 use Rattle.cedar_gate_wanted.specs.Supplying.{rows_of, keys_in, IsFilled, AreKeys}
 use Rattle.cedar_gate_wanted.specs.Wanting.{IsWanting, near_in, rows_in, mentions_of, wanted_in}
 use Rattle.cedar_gate_wanted.specs.declared.loading.Loading.{Loading}

@@ -4,3 +4,4 @@ pub mod Laws
 pub mod Near
 pub mod Kept
 pub mod Rows
+pub mod Following

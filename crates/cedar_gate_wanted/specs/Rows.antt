@@ -36,3 +36,14 @@ IsPending rows f x = (d : ℕ) × (f x ≡ Some d) × Contains (rows d) x
 -- the writes of a log: at which uid, and what stood there
 abbrev pub writes : List (EntityUID × Option ℕ) → List (Uid × Option ℕ)
 writes log = map (λ w. (uid_of w.0, w.1)) log
+
+-- a list of uids keeps its members, and so does the row of each distance
+abbrev pub KeepsMembers : List Uid → List Uid → Type 0
+KeepsMembers before after = (x : Uid) → Contains before x → Contains after x
+
+abbrev pub KeepsRows : (ℕ → List Uid) → (ℕ → List Uid) → Type 0
+KeepsRows before after = (d : ℕ) (x : Uid) → Contains (before d) x → Contains (after d) x
+
+-- each of these uids that has a distance stands in the row of its distance
+abbrev pub AreInRows : List Uid → (Uid → Option ℕ) → (ℕ → List Uid) → Type 0
+AreInRows us f rows = (x : Uid) (d : ℕ) → Contains us x → f x ≡ Some d → Contains (rows d) x

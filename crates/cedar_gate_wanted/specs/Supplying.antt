@@ -1,5 +1,5 @@
 -- Rows that are taken in: what each uid of a supply mentions; and which supplies are refused.
-use Rattle.std.specs.Prelude.{◌≡◌, ◌⊎◌, ◌↔◌, ℕ, List, map, Contains, Option, Some, None, is_some, true}
+use Rattle.std.specs.Prelude.{◌≡◌, ◌⊎◌, ◌↔◌, ℕ, List, map, Contains, Option, Some, None, is_some, IsSome, true}
 use Rattle.std.specs.declared.alloc.Global.{Global}
 use Rattle.std.specs.declared.vec.Vec.{Vec}
 use Rattle.cedar_expr_model.specs.Uid.{Uid, uid_eq}
@@ -23,6 +23,13 @@ pub record IsFilled {X : Type 0} (ps : List (Uid × X)) (f g : Uid → Option X)
 -- at the uid nothing stands any more if it is one of these, else what stood there
 abbrev pub IsOut : {X : Type 0} → List Uid → (Uid → Option X) → (Uid → Option X) → Uid → Type 0
 IsOut us f g u = (Contains us u × (g u ≡ None)) ⊎ ((Contains us u → ⊥) × (g u ≡ f u))
+
+-- a uid is repeated; or none is, and something stands at exactly these uids
+abbrev pub HasRepeated : List Uid → Type 0
+HasRepeated us = is_some (repeated uid_eq us) ≡ true
+
+abbrev pub HoldsEachOnce : {X : Type 0} → List Uid → (Uid → Option X) → Type 0
+HoldsEachOnce us f = (repeated uid_eq us ≡ None) × ((u : Uid) → IsSome (f u) ↔ Contains us u)
 
 -- the uids of a supply are those that are wanted, each once
 pub record AreKeys (wanted keys : List Uid) : Type 0 where

@@ -1,10 +1,11 @@
 -- What is loaded, as far as it leads to further uids, and what is wanted by it.
 -- Rule: the slice; sessions (docs/RULES.md).
-use Rattle.std.specs.Prelude.{◌≡◌, ◌⊎◌, ◌↔◌, ◌&&◌, ℕ, List, map, not, true, false, Bool, Contains, Option, Some, IsSome, is_some, option_map}
+use Rattle.std.specs.Prelude.{◌≡◌, ◌⊎◌, ◌↔◌, ◌&&◌, ◌++◌, ℕ, List, map, not, true, false, Bool, Contains, Option, Some, IsSome, is_some, option_map}
 use Rattle.cedar_expr_model.specs.UidOrder.{are_rising}
 use Rattle.cedar_expr_model.specs.Uid.{Uid}
 use Rattle.cedar_expr_names.specs.Views.{uid_of}
 use Rattle.cedar_expr_names.specs.declared.entity.EntityUID.{EntityUID}
+use Rattle.cedar_gate_wanted.specs.Kept.{IsKept}
 use Rattle.cedar_gate_wanted.specs.Rows.{found_at, mentions_in, uids}
 use Rattle.cedar_gate_wanted.specs.declared.loading.Loading.{Loading}
 use Rattle.cedar_schema_model.specs.Schema.{Schema, declares_action}
@@ -33,6 +34,10 @@ level_of l = l.level
 abbrev pub is_open : Schema → Option ℕ → Option (Vec EntityUID Global) → Uid → Bool
 is_open s d r u = is_some d && (not (is_some r) && not (declares_action s u))
 
+-- whether a uid is that by these distances and rows
+abbrev pub is_wanted_by : Schema → (Uid → Option ℕ) → (Uid → Option (Vec EntityUID Global)) → Uid → Bool
+is_wanted_by s f a u = is_open s (f u) (a u) u
+
 -- What is open is exactly what is wanted, by these distances and rows.
 abbrev pub Exact : Schema → List Uid → (Uid → Option ℕ) → (Uid → Option (Vec EntityUID Global)) → Type 0
 Exact s ws f a = (u : Uid) → Contains ws u ↔ (is_open s (f u) (a u) u ≡ true)
@@ -49,3 +54,14 @@ pub record IsSameLoading (l m : Loading) : Type 0 where
   pub rows : (u : Uid) → found_at m.rows u ≡ found_at l.rows u
   pub wanted : uids m.wanted.items ≡ uids l.wanted.items
   pub level : m.level ≡ l.level
+
+-- the distances are kept from these roots
+abbrev pub IsKeptFrom : List Uid → Loading → Type 0
+IsKeptFrom roots l = IsKept roots (mentions_of l) (level_of l) (near_in l)
+
+-- the distances are kept from the roots from which they were kept before, or from these besides
+abbrev pub RootsAreKept : Loading → Loading → Type 0
+RootsAreKept l m = (roots : List Uid) → IsKeptFrom roots l → IsKeptFrom roots m
+
+abbrev pub RootsAreAdded : Loading → Loading → List Uid → Type 0
+RootsAreAdded l m added = (roots : List Uid) → IsKeptFrom roots l → IsKeptFrom (roots ++ added) m

@@ -1,8 +1,8 @@
 //! The changes of distances: new roots, and what is loaded.
 
-ghost use Rattle.std.specs.Prelude.{◌≡◌, ◌++◌, ℕ, List, Option, OnOk, OnErr, IfOk};
+ghost use Rattle.std.specs.Prelude.{◌≡◌, OnOk, OnErr, IfOk};
 ghost use Rattle.cedar_expr_model.specs.Uid.{Uid};
-ghost use Rattle.cedar_gate_wanted.specs.Kept.{IsKept, IsLoaded, IsUndo};
+ghost use Rattle.cedar_gate_wanted.specs.Kept.{AddsRoots, TakesLoaded, IsUndo};
 ghost use Rattle.cedar_gate_wanted.specs.Rows.{found_at, mentions_in, uids, writes};
 
 use crate::distance_rows::Loaded;
@@ -20,7 +20,7 @@ pub fn add(
     level: u64,
     alloc: Global,
 ) -> Result<Log, AllocError>
-    ensures kept { OnOk result ((r : List Uid) → IsKept r (mentions_in loaded.now) level (found_at near.old) → IsKept (r ++ uids roots.now) (mentions_in loaded.now) level (found_at near.new)) }
+    ensures kept { OnOk result (AddsRoots (uids roots.now) (mentions_in loaded.now) level (found_at near.old) (found_at near.new)) }
     ensures log { IfOk result (λ log. IsUndo (writes log.items) (found_at near.old) (found_at near.new)) }
     ensures unchanged { OnErr result ((x : Uid) → found_at near.new x ≡ found_at near.old x) }
 {
@@ -43,7 +43,7 @@ pub fn supply(
     level: u64,
     alloc: Global,
 ) -> Result<Log, AllocError>
-    ensures kept { OnOk result ((r : List Uid) (m : Uid → List Uid) → IsLoaded m (mentions_in loaded.now) (uids keys.now) → IsKept r m level (found_at near.old) → IsKept r (mentions_in loaded.now) level (found_at near.new)) }
+    ensures kept { OnOk result (TakesLoaded (uids keys.now) (mentions_in loaded.now) level (found_at near.old) (found_at near.new)) }
     ensures log { IfOk result (λ log. IsUndo (writes log.items) (found_at near.old) (found_at near.new)) }
     ensures unchanged { OnErr result ((x : Uid) → found_at near.new x ≡ found_at near.old x) }
 {

@@ -3,9 +3,8 @@
 ghost use Rattle.std.specs.Prelude.{Option, ◌≡◌, ◌⊎◌, ◌≤◌, ℕ, OnOk, IfOk, Contains};
 ghost use Rattle.std.specs.Ordering.{nat_cmp};
 ghost use Rattle.std.specs.BTreeMap.{get, btree_map_len};
-ghost use Rattle.cedar_expr_model.specs.Uid.{Uid};
 ghost use Rattle.cedar_expr_names.specs.Views.{uid_of};
-ghost use Rattle.cedar_gate_wanted.specs.Rows.{found_at, mentions_in, row_of, uids};
+ghost use Rattle.cedar_gate_wanted.specs.Rows.{found_at, mentions_in, row_of, uids, AreInRows, KeepsRows};
 
 use crate::near::{Near, distance_of};
 use cedar_expr_names::EntityUID;
@@ -49,7 +48,7 @@ fn put(
     uid: EntityUID,
 ) -> Result<(), AllocError>
     ensures put { OnOk result (Contains (row_of (get nat_cmp pending.new) distance) (uid_of uid)) }
-    ensures kept { OnOk result ((d : ℕ) (x : Uid) → Contains (row_of (get nat_cmp pending.old) d) x → Contains (row_of (get nat_cmp pending.new) d) x) }
+    ensures kept { OnOk result (KeepsRows (row_of (get nat_cmp pending.old)) (row_of (get nat_cmp pending.new))) }
 {
     let mut row = take_row(pending, alloc, distance);
     row.push(uid)?;
@@ -59,7 +58,7 @@ fn put(
 
 // Each of these uids that has a distance, in the row under it.
 pub(crate) fn rows_at(near: &Near, keys: &[EntityUID], alloc: Global) -> Result<Pending, AllocError>
-    ensures { IfOk result (λ rows. (x : Uid) (d : ℕ) → Contains (uids keys.now) x → found_at near.now x ≡ Option.Some d → Contains (row_of (get nat_cmp rows) d) x) }
+    ensures { IfOk result (λ rows. AreInRows (uids keys.now) (found_at near.now) (row_of (get nat_cmp rows))) }
 {
     let mut pending = BTreeMap::new(alloc);
     for key in keys {

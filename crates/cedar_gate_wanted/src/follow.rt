@@ -1,9 +1,9 @@
 //! What uids mention is lowered to one more than their distance.
 
-ghost use Rattle.std.specs.Prelude.{Option, ◌≡◌, ◌+◌, ◌<◌, ◌^◌, ℕ, OnOk, Contains};
-ghost use Rattle.cedar_expr_model.specs.Uid.{Uid};
-ghost use Rattle.cedar_gate_wanted.specs.Kept.{IsSpread, IsUndo, IsFollowed};
-ghost use Rattle.cedar_gate_wanted.specs.Rows.{found_at, mentions_in, uids, writes};
+ghost use Rattle.std.specs.Prelude.{◌≡◌, ◌+◌, ◌<◌, ◌^◌, OnOk};
+ghost use Rattle.cedar_gate_wanted.specs.Following.{FollowsRow};
+ghost use Rattle.cedar_gate_wanted.specs.Kept.{IsSpread, KeepsUndo};
+ghost use Rattle.cedar_gate_wanted.specs.Rows.{found_at, uids, writes, KeepsMembers};
 
 use crate::distance_rows::{Loaded, mentions};
 use crate::near::{Log, Near, distance_of, lower};
@@ -19,8 +19,8 @@ pub(crate) fn spread(
     distance: u64,
 ) -> Result<(), AllocError>
     ensures spread { OnOk result (IsSpread (found_at near.old) (found_at near.new) distance (uids mentioned.now) (uids next.new.items)) }
-    ensures next { (x : Uid) → Contains (uids next.old.items) x → Contains (uids next.new.items) x }
-    ensures undo { (f : Uid → Option ℕ) → IsUndo (writes log.old.items) f (found_at near.old) → IsUndo (writes log.new.items) f (found_at near.new) }
+    ensures next { KeepsMembers (uids next.old.items) (uids next.new.items) }
+    ensures undo { KeepsUndo (writes log.old.items) (writes log.new.items) (found_at near.old) (found_at near.new) }
 {
     for uid in mentioned {
         if lower(near, log, uid, distance)? {
@@ -40,9 +40,9 @@ pub(crate) fn follow(
     distance: u64,
 ) -> Result<(), AllocError>
     requires { distance + 1 < 2 ^ 64 }
-    ensures followed { OnOk result (IsFollowed (mentions_in loaded.now) (found_at near.old) (found_at near.new) distance (uids keys.now) (uids next.new.items)) }
-    ensures next { (x : Uid) → Contains (uids next.old.items) x → Contains (uids next.new.items) x }
-    ensures undo { (f : Uid → Option ℕ) → IsUndo (writes log.old.items) f (found_at near.old) → IsUndo (writes log.new.items) f (found_at near.new) }
+    ensures followed { OnOk result (FollowsRow loaded.now near.old near.new distance keys.now (uids next.new.items)) }
+    ensures next { KeepsMembers (uids next.old.items) (uids next.new.items) }
+    ensures undo { KeepsUndo (writes log.old.items) (writes log.new.items) (found_at near.old) (found_at near.new) }
 {
     for key in keys {
         if distance_of(near, key) == Some(distance) {

@@ -1,10 +1,9 @@
 //! What is loaded by now, and what is wanted next.
 
-ghost use Rattle.std.specs.Prelude.{◌≡◌, ◌++◌, List, [], None, IfErr, OnOk, OnErr, is_some};
+ghost use Rattle.std.specs.Prelude.{◌≡◌, [], None, IfErr, OnOk, OnErr, is_some};
 ghost use Rattle.std.specs.List.{list_any};
 ghost use Rattle.cedar_expr_model.specs.Uid.{Uid, uid_eq};
 ghost use Rattle.cedar_expr_names.specs.Views.{uid_of};
-ghost use Rattle.cedar_gate_wanted.specs.Kept.{IsKept};
 ghost use Rattle.cedar_gate_wanted.specs.Rows.{found_at, uids, NothingStandsAt};
 ghost use Rattle.cedar_schema_model.specs.Schema.{Schema};
 ghost use Rattle.cedar_gate_wanted.specs.Supplying.{rows_of, keys_in, IsFilled, AreKeys, IsUnfit};
@@ -31,12 +30,12 @@ pub struct Loading {
 }
 
 impl Loading {
-    ghost use Rattle.cedar_gate_wanted.specs.Wanting.{near_in, rows_in, mentions_of, wanted_in, level_of, IsWanting, IsSameLoading};
+    ghost use Rattle.cedar_gate_wanted.specs.Wanting.{rows_in, wanted_in, level_of, IsWanting, IsSameLoading, IsKeptFrom, RootsAreAdded, RootsAreKept};
 
     /// Nothing is loaded, and there are no roots.
     pub fn new(alloc: Global, level: u32) -> Loading
         ensures wanting { (s : Schema) → IsWanting s result }
-        ensures kept { IsKept [] (mentions_of result) (level_of result) (near_in result) }
+        ensures kept { IsKeptFrom [] result }
         ensures level { level_of result ≡ level }
         ensures rows { (u : Uid) → rows_in result u ≡ None }
     {
@@ -70,7 +69,7 @@ impl Loading {
         roots: &[EntityUID],
     ) -> Result<(), AllocError>
         ensures wanting { OnOk result (IsWanting (S.schema schema.now) self.old → IsWanting (S.schema schema.now) self.new) }
-        ensures kept { OnOk result ((r : List Uid) → IsKept r (mentions_of self.old) (level_of self.old) (near_in self.old) → IsKept (r ++ uids roots.now) (mentions_of self.new) (level_of self.new) (near_in self.new)) }
+        ensures kept { OnOk result (RootsAreAdded self.old self.new (uids roots.now)) }
         ensures rows { self.new.rows ≡ self.old.rows }
         ensures level { level_of self.new ≡ level_of self.old }
         ensures unchanged { OnErr result (IsSameLoading self.old self.new) }
@@ -93,7 +92,7 @@ impl Loading {
     ///
     /// # Errors
     ///
-    /// A uid that isn't wanted, a wanted one that lacks, one that stands twice; or out of memory. All is as before then.
+    /// A uid that isn't wanted, a wanted one that is missing, one that is given twice; or out of memory. All is as before then.
     pub fn supply<S: DeclaredActions>(
         &mut self,
         alloc: Global,
@@ -101,7 +100,7 @@ impl Loading {
         rows: Vec<(EntityUID, Vec<EntityUID>)>,
     ) -> Result<(), Unfit>
         ensures wanting { OnOk result (IsWanting (S.schema schema.now) self.old → IsWanting (S.schema schema.now) self.new) }
-        ensures kept { OnOk result (IsWanting (S.schema schema.now) self.old → (r : List Uid) → IsKept r (mentions_of self.old) (level_of self.old) (near_in self.old) → IsKept r (mentions_of self.new) (level_of self.new) (near_in self.new)) }
+        ensures kept { OnOk result (IsWanting (S.schema schema.now) self.old → RootsAreKept self.old self.new) }
         ensures filled { OnOk result (IsFilled (rows_of rows.items) (rows_in self.old) (rows_in self.new)) }
         ensures keys { OnOk result (AreKeys (wanted_in self.old) (keys_in rows.items)) }
         ensures level { level_of self.new ≡ level_of self.old }

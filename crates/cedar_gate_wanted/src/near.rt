@@ -1,10 +1,10 @@
 //! The map of distances, and the log of what was written into it.
 
-ghost use Rattle.std.specs.Prelude.{Option, ◌≡◌, ◌⊎◌, ℕ, OnOk, OnErr, IfOk, true, false, suc, Contains, IsSome};
+ghost use Rattle.std.specs.Prelude.{Option, ◌≡◌, ◌⊎◌, ℕ, OnOk, OnErr, IfOk, true, false, suc, IsSome};
 ghost use Rattle.cedar_expr_model.specs.Uid.{Uid};
 ghost use Rattle.cedar_expr_names.specs.Views.{uid_of};
 ghost use Rattle.cedar_gate_wanted.specs.Near.{IsBelow};
-ghost use Rattle.cedar_gate_wanted.specs.Kept.{IsLowered, IsUndo};
+ghost use Rattle.cedar_gate_wanted.specs.Kept.{IsLowered, IsUndo, KeepsUndo};
 ghost use Rattle.cedar_gate_wanted.specs.Rows.{found_at, writes};
 
 use cedar_expr_names::EntityUID;
@@ -24,7 +24,7 @@ pub(crate) fn distance_of(near: &Near, uid: &EntityUID) -> Option<u64>
     near.get(uid).copied()
 }
 
-// Puts a uid at a distance. Where memory is wanting the map stays as it is, and only a new uid wants some.
+// Puts a uid at a distance. Out of memory the map stays as it is; only a new uid takes memory.
 fn put_at(near: &mut Near, uid: EntityUID, distance: u64) -> Result<(), AllocError>
     ensures here { OnOk result (found_at near.new (uid_of uid) ≡ Option.Some distance) }
     ensures apart { OnOk result ((x : Uid) → (x ≡ uid_of uid) ⊎ (found_at near.new x ≡ found_at near.old x)) }
@@ -45,7 +45,7 @@ pub(crate) fn lower(
     ensures lowered { IfOk result (λ b. b ≡ true → IsLowered (found_at near.old) (found_at near.new) (uid_of uid.now) distance) }
     ensures same { IfOk result (λ b. b ≡ false → (x : Uid) → found_at near.new x ≡ found_at near.old x) }
     ensures at { OnOk result (IsBelow (found_at near.new) (suc distance) (uid_of uid.now)) }
-    ensures undo { (f : Uid → Option ℕ) → IsUndo (writes log.old.items) f (found_at near.old) → IsUndo (writes log.new.items) f (found_at near.new) }
+    ensures undo { KeepsUndo (writes log.old.items) (writes log.new.items) (found_at near.old) (found_at near.new) }
 {
     let was = distance_of(near, uid);
     if let Some(now) = was {

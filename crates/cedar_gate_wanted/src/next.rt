@@ -1,13 +1,13 @@
 //! Uids that came into reach.
 
-ghost use Rattle.std.specs.Prelude.{◌≡◌, ◌⊎◌, ◌↔◌, true, Contains, IfOk, map};
+ghost use Rattle.std.specs.Prelude.{◌≡◌, ◌↔◌, true, Contains, IfOk};
 ghost use Rattle.cedar_expr_model.specs.UidOrder.{are_rising};
 ghost use Rattle.cedar_expr_model.specs.Uid.{Uid};
 ghost use Rattle.cedar_expr_names.specs.Views.{uid_of};
 ghost use Rattle.cedar_gate_wanted.specs.Rows.{found_at, uids};
 ghost use Rattle.cedar_schema_model.specs.Schema.{Schema, declares_action};
-ghost use Rattle.cedar_gate_wanted.specs.Wanting.{is_open};
-ghost use Rattle.cedar_gate_wanted.specs.Supplying.{keys_in};
+ghost use Rattle.cedar_gate_wanted.specs.Wanting.{is_wanted_by};
+ghost use Rattle.cedar_gate_wanted.specs.Following.{AreWantedAfter};
 
 use crate::{Loaded, Log, Near};
 use cedar_expr_names::EntityUID;
@@ -30,7 +30,7 @@ pub(crate) fn is_open<S: DeclaredActions>(
     rows: &Loaded,
     uid: &EntityUID,
 ) -> bool
-    ensures { result ≡ is_open (S.schema schema.now) (found_at near.now (uid_of uid.now)) (found_at rows.now (uid_of uid.now)) (uid_of uid.now) }
+    ensures { result ≡ is_wanted_by (S.schema schema.now) (found_at near.now) (found_at rows.now) (uid_of uid.now) }
 {
     is_kept(near, uid) && !was_asked(rows, uid) && !schema.declares_action(uid)
 }
@@ -60,7 +60,7 @@ fn gathered<S: DeclaredActions>(
     log: &Log,
     others: &[EntityUID],
 ) -> Result<Vec<EntityUID>, AllocError>
-    ensures { IfOk result (λ us. (u : Uid) → Contains (uids us.items) u ↔ (Contains (uids others.now) u ⊎ (Contains (keys_in log.now.items) u × (is_open (S.schema schema.now) (found_at near.now u) (found_at rows.now u) u ≡ true)))) }
+    ensures { IfOk result (λ us. AreWantedAfter (S.schema schema.now) near.now rows.now others.now log.now.items us.items) }
 {
     let mut all = copied(alloc, others)?;
     for (uid, _) in log {
@@ -102,7 +102,7 @@ pub(crate) fn next_wanted<S: DeclaredActions>(
     others: &[EntityUID],
 ) -> Result<Vec<EntityUID>, AllocError>
     ensures rising { IfOk result (λ us. are_rising (uids us.items) ≡ true) }
-    ensures members { IfOk result (λ us. (u : Uid) → Contains (uids us.items) u ↔ (Contains (uids others.now) u ⊎ (Contains (keys_in log.now.items) u × (is_open (S.schema schema.now) (found_at near.now u) (found_at rows.now u) u ≡ true)))) }
+    ensures members { IfOk result (λ us. AreWantedAfter (S.schema schema.now) near.now rows.now others.now log.now.items us.items) }
 {
     let all = gathered(alloc, schema, near, rows, log, others)?;
     let wanted = in_order(all)?;

@@ -1,11 +1,11 @@
 //! Distances are settled by rows, the nearest first.
 
-ghost use Rattle.std.specs.Prelude.{Option, ◌≡◌, ◌⊎◌, ◌+◌, ◌<◌, ◌≤◌, ◌^◌, ℕ, OnOk, Contains, List, IsTrue, ◌↔◌, ◌++◌};
+ghost use Rattle.std.specs.Prelude.{◌≡◌, ◌⊎◌, ◌+◌, ◌<◌, ◌≤◌, ◌^◌, ℕ, OnOk, IsTrue, ◌↔◌};
 ghost use Rattle.std.specs.Ordering.{nat_cmp};
 ghost use Rattle.std.specs.BTreeMap.{get, btree_map_len};
-ghost use Rattle.cedar_expr_model.specs.Uid.{Uid};
-ghost use Rattle.cedar_gate_wanted.specs.Kept.{IsUndo, IsFollowed, IsSettling, IsKept, IsLoaded};
-ghost use Rattle.cedar_gate_wanted.specs.Rows.{found_at, mentions_in, row_of, IsPending, uids, writes};
+ghost use Rattle.cedar_gate_wanted.specs.Following.{FollowsRow, SettlesRows};
+ghost use Rattle.cedar_gate_wanted.specs.Kept.{AddsRoots, KeepsUndo, TakesLoaded};
+ghost use Rattle.cedar_gate_wanted.specs.Rows.{found_at, mentions_in, row_of, KeepsMembers, uids, writes};
 
 use crate::distance_rows::{Loaded, Pending, rows_at, take_row};
 use crate::follow::{follow, spread};
@@ -25,11 +25,11 @@ fn step(
     alloc: Global,
 ) -> Result<(), AllocError>
     requires { distance + 1 < 2 ^ 64 }
-    ensures followed { OnOk result (IsFollowed (mentions_in loaded.now) (found_at near.old) (found_at near.new) distance (uids keys.now) (row_of (get nat_cmp pending.new) (distance + 1))) }
+    ensures followed { OnOk result (FollowsRow loaded.now near.old near.new distance keys.now (row_of (get nat_cmp pending.new) (distance + 1))) }
     ensures others { OnOk result ((q : ℕ) → (q ≡ distance + 1) ⊎ (get nat_cmp pending.new q ≡ get nat_cmp pending.old q)) }
-    ensures row { OnOk result ((x : Uid) → Contains (row_of (get nat_cmp pending.old) (distance + 1)) x → Contains (row_of (get nat_cmp pending.new) (distance + 1)) x) }
+    ensures row { OnOk result (KeepsMembers (row_of (get nat_cmp pending.old) (distance + 1)) (row_of (get nat_cmp pending.new) (distance + 1))) }
     ensures len { OnOk result (btree_map_len pending.new ≤ btree_map_len pending.old + 1) }
-    ensures undo { (f : Uid → Option ℕ) → IsUndo (writes log.old.items) f (found_at near.old) → IsUndo (writes log.new.items) f (found_at near.new) }
+    ensures undo { KeepsUndo (writes log.old.items) (writes log.new.items) (found_at near.old) (found_at near.new) }
 {
     let mut next = take_row(pending, alloc, distance + 1);
     follow(near, log, &mut next, loaded, keys, distance)?;
@@ -55,8 +55,8 @@ fn settle(
     level: u64,
     alloc: Global,
 ) -> Result<(), AllocError>
-    ensures settled { OnOk result ((r : List Uid) → IsSettling r (mentions_in loaded.now) level (found_at near.old) (IsPending (row_of (get nat_cmp pending)) (found_at near.old)) → IsKept r (mentions_in loaded.now) level (found_at near.new)) }
-    ensures undo { (f : Uid → Option ℕ) → IsUndo (writes log.old.items) f (found_at near.old) → IsUndo (writes log.new.items) f (found_at near.new) }
+    ensures settled { OnOk result (SettlesRows loaded.now level pending near.old near.new) }
+    ensures undo { KeepsUndo (writes log.old.items) (writes log.new.items) (found_at near.old) (found_at near.new) }
 {
     let mut floor = 0u64;
     'rows: while let Some((distance, keys)) = pending.pop_first() {
@@ -85,8 +85,8 @@ pub(crate) fn add_roots(
     level: u64,
     alloc: Global,
 ) -> Result<(), AllocError>
-    ensures kept { OnOk result ((r : List Uid) → IsKept r (mentions_in loaded.now) level (found_at near.old) → IsKept (r ++ uids roots.now) (mentions_in loaded.now) level (found_at near.new)) }
-    ensures undo { (f : Uid → Option ℕ) → IsUndo (writes log.old.items) f (found_at near.old) → IsUndo (writes log.new.items) f (found_at near.new) }
+    ensures kept { OnOk result (AddsRoots (uids roots.now) (mentions_in loaded.now) level (found_at near.old) (found_at near.new)) }
+    ensures undo { KeepsUndo (writes log.old.items) (writes log.new.items) (found_at near.old) (found_at near.new) }
 {
     if level == 0 {
         return Ok(());
@@ -108,8 +108,8 @@ pub(crate) fn follow_loaded(
     level: u64,
     alloc: Global,
 ) -> Result<(), AllocError>
-    ensures kept { OnOk result ((r : List Uid) (m : Uid → List Uid) → IsLoaded m (mentions_in loaded.now) (uids keys.now) → IsKept r m level (found_at near.old) → IsKept r (mentions_in loaded.now) level (found_at near.new)) }
-    ensures undo { (f : Uid → Option ℕ) → IsUndo (writes log.old.items) f (found_at near.old) → IsUndo (writes log.new.items) f (found_at near.new) }
+    ensures kept { OnOk result (TakesLoaded (uids keys.now) (mentions_in loaded.now) level (found_at near.old) (found_at near.new)) }
+    ensures undo { KeepsUndo (writes log.old.items) (writes log.new.items) (found_at near.old) (found_at near.new) }
 {
     let pending = rows_at(near, keys, alloc)?;
     settle(near, log, loaded, pending, level, alloc)?;

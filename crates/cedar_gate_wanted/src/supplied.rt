@@ -1,12 +1,11 @@
 //! Whether what is supplied is what is wanted.
 
-ghost use Rattle.std.specs.Prelude.{◌≡◌, ◌⊎◌, ◌↔◌, Contains, OnOk, IfOk, IfErr, is_some, IsSome, MatchOption, true, None, Some};
+ghost use Rattle.std.specs.Prelude.{◌≡◌, ◌⊎◌, OnOk, IfOk, IfErr, is_some, MatchOption, Some};
 ghost use Rattle.std.specs.List.{list_all};
-ghost use Rattle.cedar_expr_model.specs.Uid.{Uid, uid_eq};
-ghost use Rattle.cedar_expr_model.specs.Repeats.{repeated};
+ghost use Rattle.cedar_expr_model.specs.Uid.{Uid};
 ghost use Rattle.cedar_expr_names.specs.Views.{uid_of};
 ghost use Rattle.cedar_gate_wanted.specs.Rows.{found_at, uids};
-ghost use Rattle.cedar_gate_wanted.specs.Supplying.{keys_in, AreKeys, IsUnfit};
+ghost use Rattle.cedar_gate_wanted.specs.Supplying.{keys_in, AreKeys, HasRepeated, HoldsEachOnce, IsUnfit};
 
 use crate::rows::take_out_all;
 use cedar_expr_names::EntityUID;
@@ -20,9 +19,9 @@ pub enum Unfit {
     OutOfMemory,
     /// A uid isn't wanted.
     NotWanted,
-    /// A wanted uid lacks.
+    /// A wanted uid is missing.
     Lacking,
-    /// A uid stands twice.
+    /// A uid is given twice.
     Repeated,
 }
 
@@ -36,7 +35,7 @@ impl From<AllocError> for Unfit {
     }
 }
 
-// Puts a uid among others, and says whether it stood there.
+// Puts a uid among others. Gives whether it was among them.
 fn put_key(keys: &mut BTreeMap<EntityUID, ()>, uid: EntityUID) -> Result<bool, AllocError>
     ensures stood { IfOk result (λ b. b ≡ is_some (found_at keys.old (uid_of uid))) }
     ensures here { OnOk result (found_at keys.new (uid_of uid) ≡ Some tt) }
@@ -45,12 +44,12 @@ fn put_key(keys: &mut BTreeMap<EntityUID, ()>, uid: EntityUID) -> Result<bool, A
     Ok(keys.insert(uid, ())?.is_some())
 }
 
-// The uids of a supply, where none stands twice.
+// The uids of a supply, where none is repeated.
 fn keys_once(
     alloc: Global,
     supplied: &[(EntityUID, Vec<EntityUID>)],
 ) -> Result<Option<BTreeMap<EntityUID, ()>>, AllocError>
-    ensures { IfOk result (λ o. MatchOption o (is_some (repeated uid_eq (keys_in supplied.now)) ≡ true) (λ m. (repeated uid_eq (keys_in supplied.now) ≡ None) × ((u : Uid) → IsSome (found_at m u) ↔ Contains (keys_in supplied.now) u))) }
+    ensures { IfOk result (λ o. MatchOption o (HasRepeated (keys_in supplied.now)) (λ m. HoldsEachOnce (keys_in supplied.now) (found_at m))) }
 {
     let mut keys = BTreeMap::new(alloc);
     for (uid, _) in supplied {

@@ -1,12 +1,11 @@
 //! What is supplied, taken in.
 
-ghost use Rattle.std.specs.Prelude.{◌≡◌, List, Contains, IfOk, OnOk, OnErr, IsSome, true};
+ghost use Rattle.std.specs.Prelude.{◌≡◌, Contains, IfOk, OnOk, OnErr, IsSome, true};
 ghost use Rattle.cedar_expr_model.specs.Uid.{Uid};
 ghost use Rattle.cedar_expr_model.specs.UidOrder.{are_rising};
-ghost use Rattle.cedar_gate_wanted.specs.Kept.{IsKept};
-ghost use Rattle.cedar_gate_wanted.specs.Rows.{found_at, mentions_in, uids, NothingStandsAt};
-ghost use Rattle.cedar_gate_wanted.specs.Supplying.{rows_of, keys_in, IsFilled, AreKeys};
-ghost use Rattle.cedar_gate_wanted.specs.Wanting.{Exact};
+ghost use Rattle.cedar_gate_wanted.specs.Following.{IsExact, KeepsRoots, WhereSupplied};
+ghost use Rattle.cedar_gate_wanted.specs.Rows.{found_at, uids, NothingStandsAt};
+ghost use Rattle.cedar_gate_wanted.specs.Supplying.{rows_of, keys_in, IsFilled};
 
 use crate::next::{DeclaredActions, next_wanted};
 use crate::rows::put_rows;
@@ -28,9 +27,9 @@ pub(crate) fn take<S: DeclaredActions>(
     ensures rising { IfOk result (λ us. are_rising (uids us.items) ≡ true) }
     ensures fresh { IfOk result (λ us. NothingStandsAt (uids us.items) (found_at rows.new)) }
     ensures filled { OnOk result (IsFilled (rows_of more.items) (found_at rows.old) (found_at rows.new)) }
-    ensures exact { IfOk result (λ us. Exact (S.schema schema.now) (uids wanted.now) (found_at near.old) (found_at rows.old) → AreKeys (uids wanted.now) (keys_in more.items) → Exact (S.schema schema.now) (uids us.items) (found_at near.new) (found_at rows.new)) }
+    ensures exact { IfOk result (λ us. WhereSupplied (S.schema schema.now) wanted.now near.old rows.old more.items (IsExact (S.schema schema.now) us.items near.new rows.new)) }
     ensures stays { OnOk result ((u : Uid) → IsSome (found_at near.old u) → IsSome (found_at near.new u)) }
-    ensures kept { OnOk result (Exact (S.schema schema.now) (uids wanted.now) (found_at near.old) (found_at rows.old) → AreKeys (uids wanted.now) (keys_in more.items) → (r : List Uid) → IsKept r (mentions_in rows.old) level (found_at near.old) → IsKept r (mentions_in rows.new) level (found_at near.new)) }
+    ensures kept { OnOk result (WhereSupplied (S.schema schema.now) wanted.now near.old rows.old more.items (KeepsRoots level rows.old rows.new near.old near.new)) }
     ensures near { OnErr result ((u : Uid) → found_at near.new u ≡ found_at near.old u) }
     ensures rows { OnErr result ((u : Uid) → (Contains (keys_in more.items) u → ⊥) → found_at rows.new u ≡ found_at rows.old u) }
 {

@@ -10,7 +10,7 @@ use Rattle.cedar_schema_model.specs.WellFormed.{IsWellFormed}
 use Rattle.cedar_schema_model.specs.Kept.{KeptType, KeptAction, Kept}
 use Rattle.cedar_schema_model.specs.KeptOf.{IsSameKind, IsKeptOf}
 
--- Two kept entity types have the same name and kind, and the same that descend from them, in any order.
+-- Two kept entity types have the same name and are of the same kind, and the same that descend from them, in any order.
 pub record AreSameTypes (t u : KeptType) : Type 0 where
   pub name : t.name ≡ u.name
   pub kind : IsSameKind t.kind u.kind

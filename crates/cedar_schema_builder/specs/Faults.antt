@@ -1,4 +1,4 @@
--- The fault of declarations that an error tells, and its number.
+-- The fault of declarations that an error reports, and its number.
 -- Rule: well-formed declarations (docs/RULES.md).
 use Rattle.std.specs.Prelude.{◌≡◌, ℕ, Option, Some, None}
 use Rattle.std.specs.Option.{option_map_or}
@@ -14,7 +14,7 @@ use Rattle.cedar_schema_assembly.specs.declared.err.AssemblyError.TheVariants as
 use Rattle.cedar_schema_builder.specs.declared.err.SchemaError.{SchemaError}
 use Rattle.cedar_schema_builder.specs.declared.err.SchemaError.TheVariants.{OutOfMemory, DuplicateEntityType, DuplicateCommonType, DuplicateAction, TypeNotDefined, ActionNotDefined, CycleInCommonTypeReferences, CycleInActionHierarchy, ActionEntityTypeDeclared, ContextNotRecord, ReservedName, TypeShadowing, ActionShadowing, UnknownExtensionType}
 
--- the fault that an error tells. Out of memory tells none.
+-- the fault that an error reports. Out of memory reports none.
 abbrev pub fault_told : SchemaError → Option SchemaFault
 fault_told OutOfMemory = None
 fault_told (DuplicateEntityType n) = Some duplicate_entity_type
@@ -64,6 +64,6 @@ of_assembly (assembly.ContextNotRecord u) = ContextNotRecord u
 of_assembly (assembly.UnknownExtensionType n) = UnknownExtensionType n
 of_assembly (assembly.ReservedName e) = ReservedName e
 
--- The error tells a fault of which this holds. Out of memory tells none.
+-- The error reports a fault of which this holds. Out of memory reports none.
 abbrev pub Tells : (SchemaFault → Type 0) → SchemaError → Type 0
 Tells holds e = (f : SchemaFault) → fault_told e ≡ Some f → holds f

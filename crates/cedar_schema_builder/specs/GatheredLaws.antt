@@ -30,13 +30,13 @@ ReservedNamesAreFound = (fs : List (ValidatorSchemaFragment ConditionalName Cond
 abbrev pub ActionTypesAreFound : Type 0
 ActionTypesAreFound = (fs : List (ValidatorSchemaFragment ConditionalName ConditionalName)) (d : Declarations) → AreWritten fs d → (x : List Name) → Decides (is_some (find is_action_word (entities_named fs))) (HasSchemaFault x d action_as_entity_type)
 
--- the fault that a refusal tells
+-- the fault that a refusal reports
 abbrev pub fault_told : Refusal → SchemaFault
 fault_told (no_type c) = undeclared_type
 fault_told (no_action p) = undeclared_action
 fault_told (reserved_type n) = reserved_name
 
--- Where resolving is refused, the fault that the refusal tells is there.
+-- Where resolving is refused, the fault that the refusal reports is there.
 abbrev pub RefusalsTellFaults : Type 0
 RefusalsTellFaults = (fs : List (ValidatorSchemaFragment ConditionalName ConditionalName)) (d : Declarations) → AreWritten fs d → (s : Defined) → HasAll fs s → (x : List Name) (r : Refusal) → all_resolved s fs ≡ Err r → HasSchemaFault x d (fault_told r)
 

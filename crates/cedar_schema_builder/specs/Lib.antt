@@ -11,6 +11,7 @@ pub mod WrittenNames
 pub mod Checked
 pub mod AllResolved
 pub mod Gathered
+pub mod Assembled
 pub mod GatheredLaws
 pub mod GatheredNamed
 pub mod Writing

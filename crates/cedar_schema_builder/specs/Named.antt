@@ -46,6 +46,6 @@ NamesFault x d (TypeShadowing n) = IsTypeShadowing d (name_of n)
 NamesFault x d (ActionShadowing u) = IsActionShadowing d (uid_of u)
 NamesFault x d (UnknownExtensionType n) = Contains (extensions d) (plain_name_of n) × (Contains x (plain_name_of n) → ⊥)
 
--- Where what it names is at fault, the fault that it tells is there.
+-- Where what it names is at fault, the fault that it reports is there.
 abbrev pub NamedAreFaults : Type 0
 NamedAreFaults = (x : List Name) (d : Declarations) (e : SchemaError) → NamesFault x d e → Tells (HasSchemaFault x d) e

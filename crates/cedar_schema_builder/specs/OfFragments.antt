@@ -103,11 +103,11 @@ pub record AreFormed (x : List Name) (fs : Fragments) : Type 0 where
   pub contexts : AreContextsRecords (setting commons (sets_of fs) x) (actions_of (all_of resolved))
   pub apart : (u : Uid) → Reaches (HasParentIn (actions_of (all_of resolved))) u u → ⊥
 
--- the schema that they tell
+-- the schema that they describe
 abbrev pub schema_formed : (x : List Name) (fs : Fragments) → AreFormed x fs → Schema
 schema_formed x fs f = schema_told (setting f.commons (sets_of fs) x) (entities_of (all_of f.resolved)) (actions_of (all_of f.resolved))
 
--- The fragments are such, and these are the entity types and the actions of the schema that they tell.
+-- The fragments are such, and these are the entity types and the actions of the schema that they describe.
 pub record AreBuiltOfFormed (x : List Name) (fs : Fragments) (ts : List KeptType) (ks : List KeptAction) : Type 0 where
   pub formed : AreFormed x fs
   pub types : AreTypesOf (schema_formed x fs formed) ts

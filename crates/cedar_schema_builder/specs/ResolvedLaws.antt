@@ -57,7 +57,7 @@ pub record AreTold (s : Setting) (d : Declarations) (cs : CommonForms) (es : Ent
   pub writes : WritesAll s.defined d cs es as_
   pub solved : IsSolved s cs
 
--- The schema that they tell is that of the declarations.
+-- The schema that they describe is that of the declarations.
 abbrev pub ResolvedDeclarationsTellTheSchema : Type 0
 ResolvedDeclarationsTellTheSchema = (s : Setting) (d : Declarations) (cs : CommonForms) (es : EntityForms) (as_ : ActionForms) → AreTold s d cs es as_ → schema_told s es as_ ≡ schema_of d
 
@@ -70,7 +70,7 @@ BuiltIsTheSchema = (s : Setting) (d : Declarations) (cs : CommonForms) (es : Ent
 abbrev pub OrderOfDeclarationsIsFree : Type 0
 OrderOfDeclarationsIsFree = (x : List Name) (d e : Declarations) → IsReordered d e → IsWellFormed x d → (k : Kept) → IsKeptOf (schema_of d) k → IsKeptOf (schema_of e) k
 
--- Nothing is wrong with what is resolved: no name stands twice or shadows, no action descends from itself, each context is a record,
+-- Nothing is wrong with what is resolved: no name is repeated or shadows, no action descends from itself, each context is a record,
 -- and the extension types are known. Nor is a name reserved in the declarations, or an entity type called as the type of actions.
 pub record AreFaultless (s : Setting) (d : Declarations) (es : EntityForms) (as_ : ActionForms) : Type 0 where
   pub types_once : HasTwice (names_of_entities es) → ⊥

@@ -5,10 +5,12 @@ use Rattle.std.specs.List.{flat_map}
 use Rattle.cedar_expr_model.specs.Name.{Text, Name}
 use Rattle.cedar_expr_model.specs.Uid.{Uid}
 use Rattle.cedar_expr_leaves.specs.declared.conditional_name.ConditionalName.{ConditionalName}
-use Rattle.cedar_schema_decl.specs.Conditional.{Conditional}
+use Rattle.cedar_schema_decl.specs.Conditional.{Conditional, conditional_of}
 use Rattle.cedar_schema_decl.specs.Forms.{TypeForm, bool_form, long_form, string_form, set_form, record_form, reference_form, extension_form, FieldForms, no_field_forms, field_form, EntityForm, standard_form, enumerated_form, external_form, ActionForm}
+use Rattle.cedar_schema_fragments.specs.Actions.{principals_form, resources_form, context_form}
 use Rattle.cedar_schema_fragments.specs.Namespaces.{NamespaceForm}
 use Rattle.cedar_schema_fragments.specs.WrittenDeclarations.{all_forms}
+use Rattle.cedar_schema_fragments.specs.declared.actions.ActionFragmentKind.{ActionFragmentKind}
 use Rattle.cedar_schema_fragments.specs.declared.namespace_def.ValidatorSchemaFragment.{ValidatorSchemaFragment}
 
 -- in a type, the names that it refers to and its extension types
@@ -51,6 +53,10 @@ parents_as_written ps = map (λ p. p.0.written) ps
 -- what is declared of an action: the types of its parents, those that it applies to, and what its context names
 abbrev pub names_of_action : ActionForm Conditional (Conditional × Text) → List Name
 names_of_action a = parents_as_written a.parents ++ (as_written a.principals ++ (as_written a.resources ++ names_in_type a.context))
+
+-- what an action applies to, and what its context names
+abbrev pub names_in_action_kind : ActionFragmentKind ConditionalName ConditionalName → List Name
+names_in_action_kind k = as_written (principals_form conditional_of k) ++ (as_written (resources_form conditional_of k) ++ names_in_type (context_form conditional_of k))
 
 -- an action: its own type, and what is declared of it
 abbrev pub names_in_action : Uid × ActionForm Conditional (Conditional × Text) → List Name

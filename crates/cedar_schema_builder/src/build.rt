@@ -3,13 +3,13 @@
 ghost use Rattle.std.specs.Prelude.{IfOk, IfErr};
 ghost use Rattle.cedar_schema_decl.specs.Defined.{defined_of};
 ghost use Rattle.cedar_schema_fragments.specs.Marked.{HasAll};
-ghost use Rattle.cedar_schema_builder.specs.Gathered.{commons_gathered, entities_gathered, actions_gathered};
+ghost use Rattle.cedar_schema_builder.specs.Assembled.{GathersOf, GathersForms, AssemblesOf, NamesFaultOfGathered, IsFaultOfGathered};
 ghost use Rattle.cedar_schema_resolver.specs.Meanings.{extensions_seen};
 ghost use Rattle.cedar_schema_builder.specs.Built.{types_made, actions_made, AreBuiltOf, IsFaultOf, NamesFaultOf};
 ghost use Rattle.cedar_schema_builder.specs.Faults.{Tells};
-ghost use Rattle.cedar_schema_builder.specs.FormSteps.{AreNamesFormed, IsFaultOfNames, AreFormsOf, IsFaultOfSets, IsFaultOfForms};
+ghost use Rattle.cedar_schema_builder.specs.FormSteps.{AreNamesFormed, IsFaultOfNames, IsFaultOfSets};
 ghost use Rattle.cedar_schema_builder.specs.OfFragments.{AreBuiltOfFormed, IsFaultInFragments};
-ghost use Rattle.cedar_schema_builder.specs.Steps.{AreNamed, AreGathered, AreAssembled, NamesFaultIn, NamesFaultOfWritten};
+ghost use Rattle.cedar_schema_builder.specs.Steps.{AreNamed, NamesFaultIn};
 
 use crate::err::SchemaError;
 use crate::gathered_laws::{
@@ -29,7 +29,7 @@ use cedar_schema_resolver::{TypeResolver, resolve_common_types};
 use std::alloc::Global;
 use std::collections::BTreeSet;
 
-/// What fragments tell of a schema.
+/// What fragments declare of a schema.
 #[derive(Drop)]
 pub struct SchemaParts {
     /// The entity types.
@@ -67,8 +67,8 @@ fn gathered(
     all_defs: &AllDefs,
 ) -> Result<GatheredDefs, SchemaError>
     requires { HasAll fragments.items (defined_of all_defs.now) }
-    ensures gathered { IfOk result (λ g. AreGathered fragments.items (defined_of all_defs.now) (commons_gathered g) (entities_gathered g) (actions_gathered g)) }
-    ensures formed { IfOk result (λ g. AreFormsOf fragments.items (defined_of all_defs.now) (commons_gathered g) (entities_gathered g) (actions_gathered g)) }
+    ensures gathered { IfOk result (GathersOf fragments.items (defined_of all_defs.now)) }
+    ensures formed { IfOk result (GathersForms fragments.items (defined_of all_defs.now)) }
     ensures named { IfErr result (NamesFaultIn fragments.items) }
     ensures at_fault { IfErr result (IsFaultOfSets fragments.items (defined_of all_defs.now)) }
 {
@@ -81,16 +81,16 @@ fn gathered(
     Ok(gathered)
 }
 
-// The entity types and the actions that these tell. Refuses what can't be told, and fails when out of memory.
+// The entity types and the actions that these declare. Refuses what is at fault in them, and fails when out of memory.
 fn assembled(
     alloc: Global,
     gathered: &GatheredDefs,
     all_defs: &AllDefs,
     extension_types: &BTreeSet<Name>,
 ) -> Result<SchemaParts, SchemaError>
-    ensures made { IfOk result (λ p. AreAssembled (defined_of all_defs.now) (extensions_seen extension_types.now) (commons_gathered gathered.now) (entities_gathered gathered.now) (actions_gathered gathered.now) (types_made p) (actions_made p)) }
-    ensures named { IfErr result (NamesFaultOfWritten (defined_of all_defs.now) (extensions_seen extension_types.now) (commons_gathered gathered.now) (entities_gathered gathered.now) (actions_gathered gathered.now)) }
-    ensures at_fault { IfErr result (IsFaultOfForms (defined_of all_defs.now) (extensions_seen extension_types.now) (commons_gathered gathered.now) (entities_gathered gathered.now) (actions_gathered gathered.now)) }
+    ensures made { IfOk result (AssemblesOf (defined_of all_defs.now) (extensions_seen extension_types.now) gathered.now) }
+    ensures named { IfErr result (NamesFaultOfGathered (defined_of all_defs.now) (extensions_seen extension_types.now) gathered.now) }
+    ensures at_fault { IfErr result (IsFaultOfGathered (defined_of all_defs.now) (extensions_seen extension_types.now) gathered.now) }
 {
     names_are_declared();
     let commons = resolve_common_types(alloc, &gathered.common_types, all_defs, extension_types)?;
@@ -127,7 +127,7 @@ fn named_parts(
     Ok(parts)
 }
 
-/// The entity types and the actions of the schema that the declarations of these fragments tell, where these are well-formed and
+/// The entity types and the actions of the schema that the declarations of these fragments describe, where these are well-formed and
 /// the extension types are the ones that are known. Refuses them else, with a fault that is there and under the name of what is at
 /// fault, and fails when out of memory. Of fragments that no declarations write it builds what their names mean by what is declared in
 /// them, under the same conditions, and refuses them else with what is at fault in them.

@@ -19,7 +19,7 @@ pub fn action_types_are_found()
     ensures { ActionTypesAreFound }
 {}
 
-/// Where resolving is refused, the fault that the refusal tells is there; where nothing is refused, each reference and each parent
+/// Where resolving is refused, the fault that the refusal reports is there; where nothing is refused, each reference and each parent
 /// of an action means something.
 pub fn resolving_tells_faults()
     ensures refused { RefusalsTellFaults }

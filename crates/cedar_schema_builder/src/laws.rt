@@ -28,7 +28,7 @@ pub fn refused_steps_name_faults()
     ensures { RefusedStepsNameFaults }
 {}
 
-/// Where what an error names is at fault, the fault that it tells is there.
+/// Where what an error names is at fault, the fault that it reports is there.
 pub fn named_are_faults()
     ensures { NamedAreFaults }
 {}

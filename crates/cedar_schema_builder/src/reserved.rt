@@ -1,21 +1,20 @@
 //! Reserved names that fragments write.
 
-ghost use Rattle.std.specs.Prelude.{◌≡◌, [], ◌∷◌, ◌++◌, map, find, option_map, IfOk, IfErr};
+ghost use Rattle.std.specs.Prelude.{◌≡◌, [], ◌∷◌, map, find, IfOk, IfErr};
 ghost use Rattle.std.specs.List.{flat_map};
 ghost use Rattle.std.specs.declared.result.Result.TheVariants.{Ok};
 ghost use Rattle.cedar_expr_model.specs.Name.{is_reserved};
 ghost use Rattle.cedar_expr_names.specs.Views.{name_of};
 ghost use Rattle.cedar_expr_leaves.specs.Views.{written_name};
 ghost use Rattle.cedar_schema_decl.specs.Conditional.{conditional_of};
-ghost use Rattle.cedar_schema_decl.specs.Definitions.{common_form, commons_form, entity_form, entities_form};
-ghost use Rattle.cedar_schema_decl.specs.Forms.{standard_form};
+ghost use Rattle.cedar_schema_decl.specs.Definitions.{common_form, commons_form, entity_form, entities_form, standard_written};
 ghost use Rattle.cedar_schema_decl.specs.Trees.{type_form, variant_form, record_fields, attribute_form};
-ghost use Rattle.cedar_schema_fragments.specs.Actions.{parent_form, principals_form, resources_form, context_form, action_form, under_uid, actions_form};
+ghost use Rattle.cedar_schema_fragments.specs.Actions.{parent_form, action_form, under_uid, actions_form};
 ghost use Rattle.cedar_schema_fragments.specs.Namespaces.{namespace_form, fragment_form};
 ghost use Rattle.cedar_schema_fragments.specs.Refusals.{Refuses};
 ghost use Rattle.cedar_schema_builder.specs.Checked.{reserved_checked};
 ghost use Rattle.cedar_schema_builder.specs.Looking.{name_found};
-ghost use Rattle.cedar_schema_builder.specs.WrittenNames.{as_written, parents_as_written, names_in_type, names_in_fields, names_in_common, names_in_entity, names_in_kind, names_in_action, names_of_action, names_in_namespace, names_in};
+ghost use Rattle.cedar_schema_builder.specs.WrittenNames.{as_written, parents_as_written, names_in_type, names_in_fields, names_in_common, names_in_entity, names_in_kind, names_in_action_kind, names_in_action, names_of_action, names_in_namespace, names_in};
 
 use crate::looking::{Look, first_among};
 use cedar_expr_leaves::ConditionalName;
@@ -181,7 +180,7 @@ fn reserved_in_standard<'a>(
     attributes: &'a RecordType<ConditionalName>,
     tags: &'a Option<Type<ConditionalName>>,
 ) -> Option<&'a InternalName>
-    ensures { name_found result ≡ find is_reserved (names_in_kind (standard_form (map conditional_of parents.now) (record_fields conditional_of attributes.now) (option_map (type_form conditional_of) tags.now))) }
+    ensures { name_found result ≡ find is_reserved (names_in_kind (standard_written conditional_of parents.now attributes.now tags.now)) }
 {
     if let Some(name) = reserved_among(parents) {
         return Some(name);
@@ -233,7 +232,7 @@ impl Look for Entities {
 fn reserved_in_action_kind(
     kind: &ActionFragmentKind<ConditionalName, ConditionalName>,
 ) -> Option<&InternalName>
-    ensures { name_found result ≡ find is_reserved (as_written (principals_form conditional_of kind.now) ++ (as_written (resources_form conditional_of kind.now) ++ names_in_type (context_form conditional_of kind.now))) }
+    ensures { name_found result ≡ find is_reserved (names_in_action_kind kind.now) }
 {
     match kind {
         ActionFragmentKind::Declared {

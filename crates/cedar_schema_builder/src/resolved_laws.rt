@@ -21,7 +21,7 @@ pub fn resolved_fragments_are_written()
     written_are_declared();
 }
 
-/// With types of the common types that solve their definitions, resolved entity types and actions tell the schema of the declarations.
+/// With types of the common types that solve their definitions, resolved entity types and actions describe the schema of the declarations.
 pub fn resolved_declarations_tell_the_schema()
     ensures { ResolvedDeclarationsTellTheSchema }
 {

@@ -13,6 +13,7 @@ use Rattle.cedar_schema_fragments.specs.declared.actions.ActionFragment.{ActionF
 use Rattle.cedar_schema_fragments.specs.declared.actions.ActionFragmentKind.{ActionFragmentKind}
 use Rattle.cedar_schema_fragments.specs.declared.actions.ActionFragmentKind.TheVariants.{Declared, External}
 use Rattle.cedar_schema_fragments.specs.declared.actions.ActionsDef.{ActionsDef}
+use Rattle.cedar_schema_fragments.specs.declared.actions.ValidatorApplySpec.{ValidatorApplySpec}
 
 -- an action that is named as a parent: the name of its type, and its id
 abbrev pub parent_form : {N X : Type 0} → (N → X) → ActionEntityUID N → X × Text
@@ -26,6 +27,13 @@ principals_form g External = []
 abbrev pub resources_form : {N A X : Type 0} → (A → X) → ActionFragmentKind N A → List X
 resources_form g (Declared s t) = map g s.resource_apply_spec.items
 resources_form g External = []
+
+-- both, and those of what an action applies to by itself
+abbrev pub applies_form : {N A X : Type 0} → (A → X) → ActionFragmentKind N A → List X × List X
+applies_form g k = (principals_form g k, resources_form g k)
+
+abbrev pub applied_form : {A X : Type 0} → (A → X) → ValidatorApplySpec A → List X × List X
+applied_form g s = (map g s.principal_apply_spec.items, map g s.resource_apply_spec.items)
 
 abbrev pub context_form : {N A X : Type 0} → (N → X) → ActionFragmentKind N A → TypeForm X
 context_form f (Declared s t) = type_form f t

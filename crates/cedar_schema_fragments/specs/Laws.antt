@@ -33,7 +33,7 @@ ShadowingIsDeclared = (s : Defined) (d : Declarations) → HasDeclared s d → H
 abbrev pub QualifiedAreWritten : Type 0
 QualifiedAreWritten = (f : ValidatorSchemaFragment ConditionalName ConditionalName) (ws : List WrittenNamespace) → each namespace_qualified ws ≡ Ok (fragment_form conditional_of conditional_of f) → AreWritten (f ∷ []) (declarations_of ws)
 
--- A refusal tells a reserved name, which the declarations write.
+-- A refusal reports a reserved name, which the declarations write.
 pub record IsRefusedFor (d : Declarations) (r : Refusal) : Type 0 where
   pub kind : Name
   pub told : r ≡ reserved_type kind

@@ -1,6 +1,6 @@
 -- What stands in the place of declarations as they are written: full names, and with each name what it may stand for.
 -- Rule: references; declarations (docs/RULES.md).
-use Rattle.std.specs.Prelude.{List, [], map, Option, find, option_map}
+use Rattle.std.specs.Prelude.{List, [], ◌∷◌, map, Option, find, option_map}
 use Rattle.std.specs.Option.{option_map_or}
 use Rattle.std.specs.declared.result.Result.{Result}
 use Rattle.std.specs.declared.result.Result.TheVariants.{Ok, Err}
@@ -76,6 +76,13 @@ common_named space c = (full_name space c.0, c.1)
 
 abbrev pub commons_alone : {A P : Type 0} → Option Name → List (Name × TypeForm A) → NamespaceForm A P
 commons_alone space cs = record { namespace = space; commons = cs; entities = []; actions = [] }
+
+-- the namespace that declares these common types alone, or this one
+abbrev pub commons_namespace : {P : Type 0} → Option Name → List (Text × TypeForm Conditional) → NamespaceForm Conditional P
+commons_namespace space cs = commons_alone space (map (common_named space) cs)
+
+abbrev pub common_namespace : {P : Type 0} → Option Name → Text × TypeForm Conditional → NamespaceForm Conditional P
+common_namespace space c = commons_alone space (common_named space c ∷ [])
 
 -- the type of these actions, where it is reserved
 abbrev pub reserved_action : {X : Type 0} → Option Name → List (Text × X) → Option Name

@@ -1,4 +1,4 @@
--- What an error tells.
+-- What an error reports.
 -- Rule: references (docs/RULES.md).
 use Rattle.std.specs.Prelude.{◌≡◌, Option, Some, None}
 use Rattle.std.specs.Rc.{rc_str_bytes}
@@ -16,13 +16,13 @@ pub data Refusal : Type 0 where
   no_action : Conditional × Text → Refusal
   reserved_type : Name → Refusal
 
--- what is refused. Out of memory tells nothing.
+-- what is refused. Out of memory reports nothing.
 abbrev pub refusal : FragmentError → Option Refusal
 refusal OutOfMemory = None
 refusal (TypeNotDefined c) = Some (no_type (conditional_of c))
 refusal (ActionNotDefined c id) = Some (no_action (conditional_of c, rc_str_bytes id))
 refusal (ReservedName e) = Some (reserved_type (refused_name_of e))
 
--- The refusal that the error tells is the outcome.
+-- The refusal that the error reports is the outcome.
 abbrev pub Refuses : {B : Type 0} → Result B Refusal → FragmentError → Type 0
 Refuses o e = (r : Refusal) → refusal e ≡ Some r → o ≡ Err r

@@ -6,12 +6,15 @@ use Rattle.std.specs.declared.result.Result.{Result}
 use Rattle.std.specs.declared.result.Result.TheVariants.{Ok, Err}
 use Rattle.cedar_expr_model.specs.Name.{Text, Name, is_reserved}
 use Rattle.cedar_expr_model.specs.Uid.{Uid}
-use Rattle.cedar_schema_decl.specs.Conditional.{Conditional}
+use Rattle.cedar_expr_leaves.specs.declared.conditional_name.ConditionalName.{ConditionalName}
+use Rattle.cedar_schema_decl.specs.Conditional.{Conditional, conditional_of}
 use Rattle.cedar_schema_decl.specs.Defined.{Defined, is_defined_action, resolved, resolving}
 use Rattle.cedar_schema_decl.specs.Forms.{TypeForm, EntityForm, ActionForm}
 use Rattle.cedar_schema_decl.specs.Requalified.{and_then, requalified, requalified_entity, under_name, each}
+use Rattle.cedar_schema_fragments.specs.Actions.{applies_form, context_form}
 use Rattle.cedar_schema_fragments.specs.Namespaces.{NamespaceForm}
 use Rattle.cedar_schema_fragments.specs.Refusals.{Refusal, no_type, no_action, reserved_type}
+use Rattle.cedar_schema_fragments.specs.declared.actions.ActionFragmentKind.{ActionFragmentKind}
 
 -- a refusal of a name of a type
 abbrev pub of_types : {B : Type 0} → Result B Conditional → Result B Refusal
@@ -41,6 +44,10 @@ parent_resolved s p = option_map_or (λ n. Ok (n, p.1)) (parent_meant_by s p) (E
 abbrev pub context_resolved : Defined → TypeForm Conditional → Result (TypeForm Name) Refusal
 context_resolved s t = of_types (requalified (resolving s) t)
 
+-- of what an action applies to, and then of its context
+abbrev pub kind_resolved : Defined → ActionFragmentKind ConditionalName ConditionalName → Result (TypeForm Name) Refusal
+kind_resolved s k = and_then (λ a. context_resolved s (context_form conditional_of k)) (applied_resolved s (applies_form conditional_of k))
+
 -- of an action: first what it applies to, then its context, and then its parents
 abbrev pub action_resolved : Defined → ActionForm Conditional (Conditional × Text) → Result (ActionForm Name (Name × Text)) Refusal
 action_resolved s a =
@@ -52,6 +59,10 @@ action_resolved s a =
 -- of what stands under a uid
 abbrev pub with_uid : {A B R : Type 0} → (A → Result B R) → Uid × A → Result (Uid × B) R
 with_uid f p = and_then (λ y. Ok (p.0, y)) (f p.1)
+
+-- of actions under their uids
+abbrev pub actions_resolved : Defined → List (Uid × ActionForm Conditional (Conditional × Text)) → Result (List (Uid × ActionForm Name (Name × Text))) Refusal
+actions_resolved s us = each (with_uid (action_resolved s)) us
 
 -- of the common types, and of the entity types
 abbrev pub commons_resolved : Defined → List (Name × TypeForm Conditional) → Result (List (Name × TypeForm Name)) Conditional
@@ -67,3 +78,7 @@ namespace_resolved s n =
     (each (with_uid (action_resolved s)) n.actions))
     (of_types (entities_resolved s n.entities)))
     (of_types (commons_resolved s n.commons))
+
+-- of the namespaces of a fragment
+abbrev pub fragment_resolved : Defined → List (NamespaceForm Conditional (Conditional × Text)) → Result (List (NamespaceForm Name (Name × Text))) Refusal
+fragment_resolved s ns = each (namespace_resolved s) ns

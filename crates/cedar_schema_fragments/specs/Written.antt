@@ -80,6 +80,9 @@ commons_known es = map (λ e. (id_text e.0, common_form conditional_of e.1)) es
 abbrev pub entities_written : List (Id × EntityType RawName) → List (Text × EntityForm Name)
 entities_written es = map (λ e. (id_text e.0, kind_form raw_name_of e.1.kind)) es
 
+abbrev pub action_written : RcStr Global → ActionType RawName → Text × ActionForm Name (Name × Text)
+action_written i a = (rc_str_bytes i, action_type_form raw_name_of a)
+
 abbrev pub actions_written : List (RcStr Global × ActionType RawName) → List (Text × ActionForm Name (Name × Text))
 actions_written es = map (λ e. (rc_str_bytes e.0, action_type_form raw_name_of e.1)) es
 

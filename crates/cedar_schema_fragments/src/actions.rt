@@ -12,11 +12,11 @@ ghost use Rattle.cedar_expr_names.specs.Views.{name_of, type_name_of, uid_of};
 ghost use Rattle.cedar_schema_decl.specs.Conditional.{Conditional, conditional_of};
 ghost use Rattle.cedar_schema_decl.specs.Defined.{defined_of, is_defined_action, resolving};
 ghost use Rattle.cedar_schema_decl.specs.Forms.{ActionForm};
-ghost use Rattle.cedar_schema_decl.specs.Requalified.{and_then, requalified, each};
+ghost use Rattle.cedar_schema_decl.specs.Requalified.{requalified};
 ghost use Rattle.cedar_schema_decl.specs.Trees.{type_form};
-ghost use Rattle.cedar_schema_fragments.specs.Actions.{parent_form, principals_form, resources_form, context_form, is_elsewhere, action_form, under_uid, actions_form};
+ghost use Rattle.cedar_schema_fragments.specs.Actions.{applied_form, applies_form, parent_form, context_form, is_elsewhere, action_form, under_uid, actions_form};
 ghost use Rattle.cedar_schema_fragments.specs.Refusals.{Refuses};
-ghost use Rattle.cedar_schema_fragments.specs.Resolved.{of_types, entity_resolved, applied_resolved, parent_resolved, context_resolved, action_resolved, with_uid};
+ghost use Rattle.cedar_schema_fragments.specs.Resolved.{of_types, entity_resolved, applied_resolved, parent_resolved, context_resolved, kind_resolved, action_resolved, actions_resolved, with_uid};
 
 use crate::err::FragmentError;
 use crate::resolving::{Resolve, resolve_each};
@@ -141,8 +141,8 @@ impl ValidatorApplySpec<ConditionalName> {
         alloc: Global,
         all_defs: &AllDefs,
     ) -> Result<ValidatorApplySpec<EntityType>, FragmentError>
-        ensures resolved { IfOk result (λ r. applied_resolved (defined_of all_defs.now) (map conditional_of self.principal_apply_spec.items, map conditional_of self.resource_apply_spec.items) ≡ Ok (map type_name_of r.principal_apply_spec.items, map type_name_of r.resource_apply_spec.items)) }
-        ensures refused { IfErr result (Refuses (applied_resolved (defined_of all_defs.now) (map conditional_of self.principal_apply_spec.items, map conditional_of self.resource_apply_spec.items))) }
+        ensures resolved { IfOk result (λ r. applied_resolved (defined_of all_defs.now) (applied_form conditional_of self) ≡ Ok (applied_form type_name_of r)) }
+        ensures refused { IfErr result (Refuses (applied_resolved (defined_of all_defs.now) (applied_form conditional_of self))) }
     {
         let principals = resolve_each(alloc, self.principal_apply_spec, &EntityTypes(all_defs))?;
         let resources = resolve_each(alloc, self.resource_apply_spec, &EntityTypes(all_defs))?;
@@ -274,10 +274,10 @@ fn resolved_kind(
     kind: ActionFragmentKind<ConditionalName, ConditionalName>,
     all_defs: &AllDefs,
 ) -> Result<ActionFragmentKind<InternalName, EntityType>, FragmentError>
-    ensures applied { IfOk result (λ k. applied_resolved (defined_of all_defs.now) (principals_form conditional_of kind, resources_form conditional_of kind) ≡ Ok (principals_form type_name_of k, resources_form type_name_of k)) }
+    ensures applied { IfOk result (λ k. applied_resolved (defined_of all_defs.now) (applies_form conditional_of kind) ≡ Ok (applies_form type_name_of k)) }
     ensures context { IfOk result (λ k. context_resolved (defined_of all_defs.now) (context_form conditional_of kind) ≡ Ok (context_form name_of k)) }
     ensures placed { IfOk result (λ k. is_elsewhere k ≡ is_elsewhere kind) }
-    ensures refused { IfErr result (Refuses (and_then (λ a. context_resolved (defined_of all_defs.now) (context_form conditional_of kind)) (applied_resolved (defined_of all_defs.now) (principals_form conditional_of kind, resources_form conditional_of kind)))) }
+    ensures refused { IfErr result (Refuses (kind_resolved (defined_of all_defs.now) kind)) }
 {
     match kind {
         ActionFragmentKind::External => Ok(ActionFragmentKind::External),
@@ -366,8 +366,8 @@ impl ActionsDef<ConditionalName, ConditionalName> {
         alloc: Global,
         all_defs: &AllDefs,
     ) -> Result<ActionsDef<InternalName, EntityType>, FragmentError>
-        ensures resolved { IfOk result (λ r. each (with_uid (action_resolved (defined_of all_defs.now))) (actions_form conditional_of conditional_of self) ≡ Ok (actions_form name_of type_name_of r)) }
-        ensures refused { IfErr result (Refuses (each (with_uid (action_resolved (defined_of all_defs.now))) (actions_form conditional_of conditional_of self))) }
+        ensures resolved { IfOk result (λ r. actions_resolved (defined_of all_defs.now) (actions_form conditional_of conditional_of self) ≡ Ok (actions_form name_of type_name_of r)) }
+        ensures refused { IfErr result (Refuses (actions_resolved (defined_of all_defs.now) (actions_form conditional_of conditional_of self))) }
     {
         let actions = resolve_each(alloc, self.actions, &Actions(all_defs))?;
         Ok(ActionsDef { actions })

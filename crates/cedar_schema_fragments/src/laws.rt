@@ -9,7 +9,7 @@ pub fn shadowing_is_declared()
 {}
 
 /// What is made of a fragment as it is written writes its declarations, and fragments together write theirs together. What is
-/// refused has the fault of a reserved name, which the refusal tells, and well-formed declarations never are.
+/// refused has the fault of a reserved name, which the refusal reports, and well-formed declarations never are.
 pub fn fragments_are_written()
     ensures made { QualifiedAreWritten }
     ensures told { RefusalsAreReserved }

@@ -1,6 +1,6 @@
 //! What is declared in a namespace, and in the namespaces of a fragment, under full names.
 
-ghost use Rattle.std.specs.Prelude.{◌≡◌, [], ◌∷◌, map, option_map, IfOk, IfErr};
+ghost use Rattle.std.specs.Prelude.{◌≡◌, map, option_map, IfOk, IfErr};
 ghost use Rattle.std.specs.declared.result.Result.TheVariants.{Ok};
 ghost use Rattle.cedar_expr_model.specs.Name.{Name, Text};
 ghost use Rattle.cedar_expr_names.specs.Namespaces.{space_of};
@@ -12,9 +12,9 @@ ghost use Rattle.cedar_schema_decl.specs.Requalified.{requalified, requalified_e
 ghost use Rattle.cedar_schema_fragments.specs.Iterators.{names_left, spaces_left};
 ghost use Rattle.cedar_schema_fragments.specs.Marked.{common_names, entity_names, action_uids};
 ghost use Rattle.cedar_schema_fragments.specs.Namespaces.{NamespaceForm, namespace_form, fragment_form};
-ghost use Rattle.cedar_schema_fragments.specs.Qualified.{common_named, commons_alone, namespace_qualified};
+ghost use Rattle.cedar_schema_fragments.specs.Qualified.{commons_namespace, common_namespace, namespace_qualified};
 ghost use Rattle.cedar_schema_fragments.specs.Refusals.{Refuses};
-ghost use Rattle.cedar_schema_fragments.specs.Resolved.{of_types, commons_resolved, entities_resolved, namespace_resolved};
+ghost use Rattle.cedar_schema_fragments.specs.Resolved.{of_types, commons_resolved, entities_resolved, namespace_resolved, fragment_resolved};
 ghost use Rattle.cedar_schema_fragments.specs.Written.{commons_known, written_namespace, written_fragment};
 
 use crate::actions::{ActionFragment, ActionsDef};
@@ -179,7 +179,7 @@ impl ValidatorNamespaceDef<ConditionalName, ConditionalName> {
         namespace: Option<InternalName>,
         defs: BTreeMap<Id, CommonType<ConditionalName>>,
     ) -> Result<ValidatorNamespaceDef<ConditionalName, ConditionalName>, AllocError>
-        ensures { IfOk result (λ r. namespace_form conditional_of conditional_of r ≡ commons_alone (option_map name_of namespace) (map (common_named (option_map name_of namespace)) (commons_known defs.entries))) }
+        ensures { IfOk result (λ r. namespace_form conditional_of conditional_of r ≡ commons_namespace (option_map name_of namespace) (commons_known defs.entries)) }
     {
         let common_types = named_commons(alloc, defs, namespace.as_ref())?;
         Ok(ValidatorNamespaceDef {
@@ -198,7 +198,7 @@ impl ValidatorNamespaceDef<ConditionalName, ConditionalName> {
         namespace: Option<InternalName>,
         def: (Id, CommonType<ConditionalName>),
     ) -> Result<ValidatorNamespaceDef<ConditionalName, ConditionalName>, AllocError>
-        ensures { IfOk result (λ r. namespace_form conditional_of conditional_of r ≡ commons_alone (option_map name_of namespace) (common_named (option_map name_of namespace) (id_text def.0, common_form conditional_of def.1) ∷ [])) }
+        ensures { IfOk result (λ r. namespace_form conditional_of conditional_of r ≡ common_namespace (option_map name_of namespace) (id_text def.0, common_form conditional_of def.1)) }
     {
         let (word, common) = def;
         let name = full_name(alloc, namespace.as_ref(), word, common.loc)?;
@@ -298,8 +298,8 @@ impl ValidatorSchemaFragment<ConditionalName, ConditionalName> {
         alloc: Global,
         all_defs: &AllDefs,
     ) -> Result<ValidatorSchemaFragment<InternalName, EntityType>, FragmentError>
-        ensures resolved { IfOk result (λ r. each (namespace_resolved (defined_of all_defs.now)) (fragment_form conditional_of conditional_of self) ≡ Ok (fragment_form name_of type_name_of r)) }
-        ensures refused { IfErr result (Refuses (each (namespace_resolved (defined_of all_defs.now)) (fragment_form conditional_of conditional_of self))) }
+        ensures resolved { IfOk result (λ r. fragment_resolved (defined_of all_defs.now) (fragment_form conditional_of conditional_of self) ≡ Ok (fragment_form name_of type_name_of r)) }
+        ensures refused { IfErr result (Refuses (fragment_resolved (defined_of all_defs.now) (fragment_form conditional_of conditional_of self))) }
     {
         let namespaces = resolve_each(alloc, self.0, &Namespaces(all_defs))?;
         Ok(ValidatorSchemaFragment(namespaces))

@@ -15,7 +15,7 @@ ghost use Rattle.cedar_schema_fragments.specs.Actions.{parent_form, principals_f
 ghost use Rattle.cedar_schema_fragments.specs.Qualified.{type_with, entity_with, parent_with, action_with, full_name, common_named, common_qualified, entity_qualified, action_typed, actions_qualified};
 ghost use Rattle.cedar_schema_fragments.specs.Refusals.{Refuses};
 ghost use Rattle.cedar_schema_fragments.specs.Resolved.{unreserved};
-ghost use Rattle.cedar_schema_fragments.specs.Written.{kind_form, principals_written, resources_written, context_written, is_written_elsewhere, action_type_form, commons_known, commons_written, entities_written, actions_written};
+ghost use Rattle.cedar_schema_fragments.specs.Written.{kind_form, principals_written, resources_written, context_written, is_written_elsewhere, action_type_form, commons_known, commons_written, entities_written, action_written, actions_written};
 
 use crate::actions::{ActionFragment, ActionFragmentKind, ActionsDef, ValidatorApplySpec};
 use crate::err::FragmentError;
@@ -286,7 +286,7 @@ fn action_of_type(
     namespace: Option<&InternalName>,
     ty: &EntityType,
 ) -> Result<(EntityUID, ActionFragment<ConditionalName, ConditionalName>), AllocError>
-    ensures { IfOk result (λ r. under_uid conditional_of conditional_of r ≡ action_typed (space_of namespace.entry) (type_name_of ty.now) (rc_str_bytes id.now, action_type_form raw_name_of action.now)) }
+    ensures { IfOk result (λ r. under_uid conditional_of conditional_of r ≡ action_typed (space_of namespace.entry) (type_name_of ty.now) (action_written id.now action.now)) }
 {
     let uid = EntityUID::from_components(ty.clone()?, Eid::new(id.clone()?), action.loc);
     let action = action_in(alloc, action, namespace)?;

@@ -3,3 +3,4 @@ pub mod SchemaViews
 pub mod Laws
 pub mod Pairs
 pub mod Types
+pub mod Faults

@@ -2,14 +2,13 @@
 
 ghost use Rattle.std.specs.Prelude.{◌≡◌, ◌||◌, map, IfOk, OnOk};
 ghost use Rattle.std.specs.BTreeSet.{contains};
-ghost use Rattle.std.specs.List.{list_any};
 ghost use Rattle.cedar_expr_model.specs.Name.{name_eq};
 ghost use Rattle.cedar_expr_names.specs.Views.{type_name_of};
 ghost use Rattle.cedar_expr_names.specs.declared.entity.EntityType.{EntityType as CodeType};
 ghost use Rattle.cedar_schema_entries.specs.Views.{action_seen};
 ghost use Rattle.cedar_typechecker.specs.Types.{is_type_of_action, descends_by_actions, AreTypesOf};
-ghost use Rattle.cedar_typechecker_model.specs.Asked.{is_pair, pairs_of};
-ghost use Rattle.cedar_typechecker.specs.Pairs.{types_by, has_pair};
+ghost use Rattle.cedar_typechecker_model.specs.Asked.{pairs_of};
+ghost use Rattle.cedar_typechecker.specs.Pairs.{types_by, are_among, GainsPairs};
 
 use crate::type_pairs::TypePairs;
 use cedar_expr_names::{EntityType, EntityUID};
@@ -72,7 +71,7 @@ fn add_pairs(
     alloc: Global,
     action: &ValidatorActionId,
 ) -> Result<(), AllocError>
-    ensures { OnOk result ((q r : CodeType) → has_pair pairs.new q r ≡ (list_any (is_pair (type_name_of q) (type_name_of r)) (pairs_of (action_seen action.now)) || has_pair pairs.old q r)) }
+    ensures { OnOk result (GainsPairs (are_among (pairs_of (action_seen action.now))) pairs.old pairs.new) }
 {
     for below in action.descendants() {
         let first = below.entity_type().clone()?;

@@ -1,11 +1,11 @@
 //! The environments of actions.
 
-ghost use Rattle.std.specs.Prelude.{◌≡◌, ◌++◌, ◌∷◌, [], map, IfOk, OnOk};
+ghost use Rattle.std.specs.Prelude.{◌≡◌, ◌∷◌, [], map, IfOk, OnOk};
 ghost use Rattle.std.specs.List.{flat_map};
 ghost use Rattle.cedar_expr_names.specs.Views.{type_name_of};
 ghost use Rattle.cedar_schema_entries.specs.Views.{action_seen};
 ghost use Rattle.cedar_schema_types.specs.Types.{type_of, attributes_of};
-ghost use Rattle.cedar_typechecker_environments.specs.Settings.{environment_of};
+ghost use Rattle.cedar_typechecker_environments.specs.Settings.{environment_of, AddsEnvironments};
 ghost use Rattle.cedar_typechecker_model.specs.Asked.{environment_kept, environments_with, environments_kept};
 ghost use Rattle.cedar_typechecker_model.specs.Seen.{context_of};
 
@@ -31,13 +31,13 @@ pub(crate) fn environments_of(
     Ok(found)
 }
 
-// Puts the environments of the action behind those that were found. Fails only when out of memory.
+// Appends the environments of the action to those that were found. Fails only when out of memory.
 fn add_environments(
     alloc: Global,
     found: &mut Vec<RequestEnv>,
     action: &ValidatorActionId,
 ) -> Result<(), AllocError>
-    ensures { OnOk result (map environment_of found.new.items ≡ map environment_of found.old.items ++ environments_kept (action_seen action.now)) }
+    ensures { OnOk result (AddsEnvironments found.old found.new (environments_kept (action_seen action.now))) }
 {
     for principal in action.principals() {
         add_with(alloc, found, action, principal)?;
@@ -45,14 +45,14 @@ fn add_environments(
     Ok(())
 }
 
-// Puts the environments of the action with principals of this type behind those that were found.
+// Appends the environments of the action with principals of this type to those that were found.
 fn add_with(
     alloc: Global,
     found: &mut Vec<RequestEnv>,
     action: &ValidatorActionId,
     principal: &EntityType,
 ) -> Result<(), AllocError>
-    ensures { OnOk result (map environment_of found.new.items ≡ map environment_of found.old.items ++ environments_with (action_seen action.now) (type_name_of principal.now)) }
+    ensures { OnOk result (AddsEnvironments found.old found.new (environments_with (action_seen action.now) (type_name_of principal.now))) }
 {
     for resource in action.resources() {
         add_environment(alloc, found, action, principal, resource)?;
@@ -60,7 +60,7 @@ fn add_with(
     Ok(())
 }
 
-// Puts the environment of the action with a principal and a resource of these types behind those that were found.
+// Appends the environment of the action with a principal and a resource of these types to those that were found.
 fn add_environment(
     alloc: Global,
     found: &mut Vec<RequestEnv>,
@@ -68,7 +68,7 @@ fn add_environment(
     principal: &EntityType,
     resource: &EntityType,
 ) -> Result<(), AllocError>
-    ensures { OnOk result (map environment_of found.new.items ≡ map environment_of found.old.items ++ environment_kept (action_seen action.now) (type_name_of principal.now) (type_name_of resource.now) ∷ []) }
+    ensures { OnOk result (AddsEnvironments found.old found.new (environment_kept (action_seen action.now) (type_name_of principal.now) (type_name_of resource.now) ∷ [])) }
 {
     let context = attributes_in(alloc, action.context())?;
     let kind = RequestType {

@@ -10,6 +10,7 @@ pub mod laws;
 mod schema_and_functions;
 mod scopes;
 mod type_pairs;
+mod typecheck;
 mod typechecker;
 mod typing;
 mod validator;
@@ -26,7 +27,10 @@ pub use validator::Validator;
 pub mod asked {
     pub use crate::schema_and_functions::SchemaAndFunctions;
     pub use cedar_typechecker_environments::{FunctionSignature, TypingSchema, World};
-    pub use cedar_typechecker_scopes::{SchemaEnvironments, ScopeSchema, policy_environments};
+    pub use cedar_typechecker_scopes::{
+        PolicyEnvironments, SchemaEnvironments, ScopeSchema, policy_environments,
+        policy_environments_by,
+    };
 }
 
 /// Levels: how far a typed expression reaches into the store.
@@ -36,9 +40,9 @@ pub mod level {
 
 /// Answers of typing, and facts.
 pub mod typecheck_answer {
+    pub use crate::typecheck::typecheck;
     pub use cedar_typechecker_answers::{Faults, TypeFault, TypecheckAnswer, TypingErrorKind};
     pub use cedar_typechecker_environments::{Capability, CapabilitySet};
-    pub use cedar_typechecker_operators::typecheck;
 }
 
 /// Policies over any schema that can be asked.

@@ -61,7 +61,7 @@ fn others_of(
     Ok(others)
 }
 
-// Whether an entity of the kind may have the id: one of the members, where the kind is enumerated.
+// Whether an entity of a type of this kind may have the id: one of the members, where the type is enumerated.
 fn may_have_id(kind: &ValidatorEntityTypeKind, id: &Eid) -> bool
     ensures { (as_ : ModelAttributes) → result ≡ has_id (kind_with as_ kind.now) (eid_text id.now) }
 {

@@ -1,10 +1,8 @@
 //! Pairs of entity types.
 
-ghost use Rattle.std.specs.Prelude.{◌≡◌, ◌&&◌, ◌||◌, false, OnOk, OnErr};
-ghost use Rattle.cedar_expr_model.specs.Name.{name_eq};
-ghost use Rattle.cedar_expr_names.specs.Views.{type_name_of};
+ghost use Rattle.std.specs.Prelude.{◌≡◌, false, OnOk, OnErr};
 ghost use Rattle.cedar_expr_names.specs.declared.entity.EntityType.{EntityType as CodeType};
-ghost use Rattle.cedar_typechecker.specs.Pairs.{has_pair};
+ghost use Rattle.cedar_typechecker.specs.Pairs.{has_pair, are_types, GainsPairs};
 
 use cedar_expr_names::EntityType;
 use std::alloc::{AllocError, Global};
@@ -43,7 +41,7 @@ impl TypePairs {
         first: EntityType,
         second: EntityType,
     ) -> Result<(), AllocError>
-        ensures added { OnOk result ((q r : CodeType) → has_pair self.new q r ≡ ((name_eq (type_name_of q) (type_name_of first) && name_eq (type_name_of r) (type_name_of second)) || has_pair self.old q r)) }
+        ensures added { OnOk result (GainsPairs (are_types first second) self.old self.new) }
         ensures kept { OnErr result ((q r : CodeType) → has_pair self.new q r ≡ has_pair self.old q r) }
     {
         if let Some(row) = self.rows.get_mut(&first) {

@@ -20,21 +20,20 @@ pub struct Typechecker<'s, 't, 'e> {
 }
 
 impl<'s, 't, 'e> Typechecker<'s, 't, 'e> {
-    ghost use Rattle.std.specs.Prelude.{◌≡◌, true, IfOk, OnOk, OnErr};
+    ghost use Rattle.std.specs.Prelude.{◌≡◌, IfOk, OnOk, OnErr};
     ghost use Rattle.std.specs.HashSet.{IsSameSet};
     ghost use Rattle.cedar_expr_functions.specs.Tables.{table_of};
     ghost use Rattle.cedar_schema_built.specs.Views.{schema_kept};
     ghost use Rattle.cedar_schema_joins.specs.Modes.{mode_of};
     ghost use Rattle.cedar_schema_model.specs.Types.{strict};
-    ghost use Rattle.cedar_store_model.specs.Policy.{condition};
-    ghost use Rattle.cedar_store_policies.specs.Templates.{template_of, template_loc};
-    ghost use Rattle.cedar_typechecker.specs.Views.{schema_typed_by, table_typed_by, mode_typed_in, checks_left, schema_checked_by, table_checked_by};
+    ghost use Rattle.cedar_store_policies.specs.Templates.{template_of};
+    ghost use Rattle.cedar_typechecker.specs.Views.{schema_typed_by, table_typed_by, mode_typed_in, checks_left, schema_checked_by, table_checked_by, typed_in, passes_by, is_warned_by};
     ghost use Rattle.cedar_typechecker_environments.specs.Settings.{environment_of};
-    ghost use Rattle.cedar_typechecker_model.specs.Verdicts.{in_mode, passes_in, is_warned, policy_environments, HasVerdict};
-    ghost use Rattle.cedar_typechecker_policies.specs.Checks.{CheckSays, verdict_seen, is_passing};
-    ghost use Rattle.cedar_typechecker_policies.specs.Found.{GainsErrors, GainsWarnings};
+    ghost use Rattle.cedar_typechecker_model.specs.Verdicts.{policy_environments};
+    ghost use Rattle.cedar_typechecker_policies.specs.Checks.{IsCheckOf, IsVerdictOn};
+    ghost use Rattle.cedar_typechecker_policies.specs.Validated.{GainsErrorsOf, GainsWarningOf};
     ghost use Rattle.cedar_typechecker_policies.specs.Iterated.{mode_checked, policy_checked};
-    ghost use Rattle.cedar_typechecker_policies.specs.Sound.{ForAlike, MeansTruth, PolicyMeansTruth};
+    ghost use Rattle.cedar_typechecker_policies.specs.Sound.{MeansTruthIfPassing, PolicyMeansTruthIf};
     ghost use Rattle.cedar_typechecker.specs.SchemaViews.{silent};
     ghost use Rattle.cedar_typechecker_model.specs.Seen.{schema_seen, IsClosed};
 
@@ -65,12 +64,12 @@ impl<'s, 't, 'e> Typechecker<'s, 't, 'e> {
         type_errors: &mut HashSet<ValidationError>,
         warnings: &mut HashSet<ValidationWarning>,
     ) -> Result<bool, AllocError>
-        ensures passes { IfOk result (λ b. b ≡ passes_in (mode_typed_in self.now) (schema_typed_by self.now) (table_typed_by self.now) (template_of t.now)) }
-        ensures errors { OnOk result (GainsErrors ⟦<ValidationError as PartialEq>⟧.eq (template_of t.now).id (passes_in (mode_typed_in self.now) (schema_typed_by self.now) (table_typed_by self.now) (template_of t.now)) type_errors.old type_errors.new) }
-        ensures warnings { OnOk result (GainsWarnings ⟦<ValidationWarning as PartialEq>⟧.eq (template_of t.now).id (template_loc t.now) (is_warned (mode_typed_in self.now) (schema_typed_by self.now) (table_typed_by self.now) (template_of t.now)) warnings.old warnings.new) }
+        ensures passes { IfOk result (λ b. b ≡ passes_by self.now t.now) }
+        ensures errors { OnOk result (GainsErrorsOf t.now (passes_by self.now t.now) type_errors.old type_errors.new) }
+        ensures warnings { OnOk result (GainsWarningOf t.now (is_warned_by self.now t.now) warnings.old warnings.new) }
         ensures errors_kept { OnErr result (IsSameSet ⟦<ValidationError as PartialEq>⟧.eq type_errors.new type_errors.old) }
         ensures warnings_kept { OnErr result (IsSameSet ⟦<ValidationWarning as PartialEq>⟧.eq warnings.new warnings.old) }
-        ensures sound { mode_typed_in self.now ≡ strict → IfOk result (λ b. b ≡ true → ForAlike (schema_typed_by self.now) (table_typed_by self.now) (PolicyMeansTruth (template_of t.now))) }
+        ensures sound { mode_typed_in self.now ≡ strict → IfOk result (PolicyMeansTruthIf (schema_typed_by self.now) (table_typed_by self.now) (template_of t.now)) }
     {
         typecheck_policy(self.alloc, &self.asked, self.mode, t, type_errors, warnings)
     }
@@ -98,9 +97,9 @@ impl<'s, 't, 'e> Typechecker<'s, 't, 'e> {
         t: &Template,
         request_env: &RequestEnv,
     ) -> Result<PolicyCheck, AllocError>
-        ensures verdict { IfOk result (λ c. HasVerdict (in_mode (mode_typed_in self.now) (schema_typed_by self.now) (table_typed_by self.now) (environment_of request_env.now)) (condition (template_of t.now)) (verdict_seen c)) }
-        ensures says { IfOk result (CheckSays (in_mode (mode_typed_in self.now) (schema_typed_by self.now) (table_typed_by self.now) (environment_of request_env.now)) (condition (template_of t.now)) (template_of t.now).id) }
-        ensures sound { mode_typed_in self.now ≡ strict → IfOk result (λ c. is_passing (verdict_seen c) ≡ true → ForAlike (schema_typed_by self.now) (table_typed_by self.now) (MeansTruth (environment_of request_env.now) (condition (template_of t.now)))) }
+        ensures verdict { IfOk result (IsVerdictOn (typed_in self.now (environment_of request_env.now)) (template_of t.now)) }
+        ensures says { IfOk result (IsCheckOf (typed_in self.now (environment_of request_env.now)) (template_of t.now)) }
+        ensures sound { mode_typed_in self.now ≡ strict → IfOk result (MeansTruthIfPassing (typed_in self.now (environment_of request_env.now)) (template_of t.now)) }
     {
         let world = World {
             schema: &self.asked,

@@ -7,7 +7,7 @@ ghost use Rattle.cedar_expr_model.specs.Name.{name_eq};
 ghost use Rattle.cedar_expr_functions.specs.Tables.{ordered_of};
 ghost use Rattle.cedar_expr_names.specs.Views.{plain_name_of, type_name_of};
 ghost use Rattle.cedar_schema_built.specs.Views.{schema_kept};
-ghost use Rattle.cedar_typechecker.specs.Types.{descends_by_actions};
+ghost use Rattle.cedar_typechecker.specs.Types.{descends_either};
 ghost use Rattle.cedar_typechecker.specs.SchemaViews.{schema_of, table_seen};
 ghost use Rattle.cedar_typechecker_model.specs.Asked.{type_is_below};
 
@@ -83,7 +83,7 @@ impl TypingSchema for SchemaAndFunctions<'_, '_, '_> {
 impl SchemaAndFunctions<'_, '_, '_> {
     // Whether the first type descends from the second as an entity type, or an action of it from one of the second.
     fn is_type_below(&self, ty: &EntityType, above: &EntityType) -> bool
-        ensures { result ≡ (type_is_below (schema_kept self.now.schema.now) (type_name_of ty.now) (type_name_of above.now) || descends_by_actions self.now.action_types ty.now above.now) }
+        ensures { result ≡ descends_either (schema_kept self.now.schema.now) self.now.action_types ty.now above.now }
     {
         is_below(self.schema, ty, above) || self.action_types.descends(ty, above)
     }

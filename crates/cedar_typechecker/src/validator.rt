@@ -22,21 +22,18 @@ pub struct Validator<'s, 't, 'e> {
 }
 
 impl<'s, 't, 'e> Validator<'s, 't, 'e> {
-    ghost use Rattle.std.specs.Prelude.{◌≡◌, [], map, IfOk};
+    ghost use Rattle.std.specs.Prelude.{◌≡◌, IfOk};
     ghost use Rattle.cedar_expr_functions.specs.Tables.{table_of};
     ghost use Rattle.cedar_schema_built.specs.Views.{schema_kept};
     ghost use Rattle.cedar_schema_joins.specs.Modes.{mode_of};
     ghost use Rattle.cedar_schema_model.specs.Types.{strict};
-    ghost use Rattle.cedar_store_parts.specs.Parts.{id_text, bindings_of, filled};
-    ghost use Rattle.cedar_store_policies.specs.Policies.{policy_of, policy_loc};
-    ghost use Rattle.cedar_store_policies.specs.Templates.{template_of, template_loc};
-    ghost use Rattle.cedar_store_parts.specs.Views.{warning_of};
+    ghost use Rattle.cedar_store_parts.specs.Parts.{id_text, bindings_of};
+    ghost use Rattle.cedar_store_policies.specs.Templates.{template_of};
     ghost use Rattle.cedar_typechecker.specs.Views.{schema_validated_by, table_validated_by};
-    ghost use Rattle.cedar_typechecker_policies.specs.Found.{FindsErrors, FindsWarnings, asked_in};
-    ghost use Rattle.cedar_typechecker_policies.specs.Sound.{ForAlike, PolicyMeansTruth, LooksInReach};
+    ghost use Rattle.cedar_typechecker_policies.specs.Validated.{HasErrors, HasWarnings, MeansTruthUnlessWrong, InReachUnlessWrong};
     ghost use Rattle.cedar_typechecker.specs.SchemaViews.{silent};
-    ghost use Rattle.cedar_typechecker_scopes.specs.Applying.{application_warnings};
-    ghost use Rattle.cedar_typechecker_scopes.specs.Faults.{known_types, known_actions, known_members, wrong_within, wrong_bound, blamed, blame_of};
+    ghost use Rattle.cedar_typechecker_scopes.specs.Warned.{WarnsOfTemplate, WarnsOfPolicy};
+    ghost use Rattle.cedar_typechecker_scopes.specs.Faults.{known_types, known_actions, known_members, wrong_bound, Reports, ReportsRule};
     ghost use Rattle.cedar_typechecker_model.specs.Seen.{schema_seen, IsClosed};
 
     /// The validator of a schema with a table of extension functions. What the schema keeps has to be closed under descent: a law (`laws`)
@@ -59,7 +56,7 @@ impl<'s, 't, 'e> Validator<'s, 't, 'e> {
         &self,
         template: &Template,
     ) -> Result<Vec<ValidationError>, AllocError>
-        ensures { IfOk result (λ es. map blame_of es.items ≡ blamed (template_of template.now).id (wrong_within (schema_validated_by self.now) known_members (template_of template.now))) }
+        ensures { IfOk result (ReportsRule (schema_validated_by self.now) known_members (template_of template.now)) }
     {
         validate_enum_entity(self.alloc, &self.asked, template)
     }
@@ -70,7 +67,7 @@ impl<'s, 't, 'e> Validator<'s, 't, 'e> {
         &self,
         template: &Template,
     ) -> Result<Vec<ValidationError>, AllocError>
-        ensures { IfOk result (λ es. map blame_of es.items ≡ blamed (template_of template.now).id (wrong_within (schema_validated_by self.now) known_types (template_of template.now))) }
+        ensures { IfOk result (ReportsRule (schema_validated_by self.now) known_types (template_of template.now)) }
     {
         validate_entity_types(self.alloc, &self.asked, template)
     }
@@ -80,7 +77,7 @@ impl<'s, 't, 'e> Validator<'s, 't, 'e> {
         &self,
         template: &Template,
     ) -> Result<Vec<ValidationError>, AllocError>
-        ensures { IfOk result (λ es. map blame_of es.items ≡ blamed (template_of template.now).id (wrong_within (schema_validated_by self.now) known_actions (template_of template.now))) }
+        ensures { IfOk result (ReportsRule (schema_validated_by self.now) known_actions (template_of template.now)) }
     {
         validate_action_ids(self.alloc, &self.asked, template)
     }
@@ -92,7 +89,7 @@ impl<'s, 't, 'e> Validator<'s, 't, 'e> {
         policy_id: &PolicyID,
         slots: &SlotEnv,
     ) -> Result<Vec<ValidationError>, AllocError>
-        ensures { IfOk result (λ es. map blame_of es.items ≡ blamed (id_text policy_id.now) (wrong_bound (schema_validated_by self.now) (bindings_of slots.now))) }
+        ensures { IfOk result (Reports (id_text policy_id.now) (wrong_bound (schema_validated_by self.now) (bindings_of slots.now))) }
     {
         validate_entity_types_in_slots(self.alloc, &self.asked, policy_id, slots)
     }
@@ -102,7 +99,7 @@ impl<'s, 't, 'e> Validator<'s, 't, 'e> {
         &self,
         template: &Template,
     ) -> Result<Vec<ValidationWarning>, AllocError>
-        ensures { IfOk result (λ ws. map warning_of ws.items ≡ application_warnings (schema_validated_by self.now) (template_of template.now).id (template_loc template.now) (asked_in (template_of template.now))) }
+        ensures { IfOk result (WarnsOfTemplate (schema_validated_by self.now) template.now) }
     {
         validate_template_action_application(self.alloc, &self.asked, template)
     }
@@ -113,7 +110,7 @@ impl<'s, 't, 'e> Validator<'s, 't, 'e> {
         &self,
         policy: &Policy,
     ) -> Result<Vec<ValidationWarning>, AllocError>
-        ensures { IfOk result (λ ws. map warning_of ws.items ≡ application_warnings (schema_validated_by self.now) (policy_of policy.now).id (policy_loc policy.now) (record { principal = filled (policy_of policy.now).bindings.principal (policy_of policy.now).principal; action = (policy_of policy.now).action; resource = filled (policy_of policy.now).bindings.resource (policy_of policy.now).resource })) }
+        ensures { IfOk result (WarnsOfPolicy (schema_validated_by self.now) policy.now) }
     {
         validate_linked_action_application(self.alloc, &self.asked, policy)
     }
@@ -129,10 +126,10 @@ impl<'s, 't, 'e> Validator<'s, 't, 'e> {
         mode: ValidationMode,
         max_deref_level: u32,
     ) -> Result<Validated, AllocError>
-        ensures errors { IfOk result (λ v. FindsErrors max_deref_level (mode_of mode) (schema_validated_by self.now) (table_validated_by self.now) (template_of p.now) v.errors.items) }
-        ensures warnings { IfOk result (λ v. FindsWarnings (mode_of mode) (schema_validated_by self.now) (table_validated_by self.now) (template_of p.now) (template_loc p.now) v.warnings.items) }
-        ensures sound { mode_of mode ≡ strict → IfOk result (λ v. v.errors.items ≡ [] → ForAlike (schema_validated_by self.now) (table_validated_by self.now) (PolicyMeansTruth (template_of p.now))) }
-        ensures reach { mode_of mode ≡ strict → IfOk result (λ v. v.errors.items ≡ [] → ForAlike (schema_validated_by self.now) (table_validated_by self.now) (LooksInReach max_deref_level (template_of p.now))) }
+        ensures errors { IfOk result (HasErrors max_deref_level (mode_of mode) (schema_validated_by self.now) (table_validated_by self.now) p.now) }
+        ensures warnings { IfOk result (HasWarnings (mode_of mode) (schema_validated_by self.now) (table_validated_by self.now) p.now) }
+        ensures sound { mode_of mode ≡ strict → IfOk result (MeansTruthUnlessWrong (schema_validated_by self.now) (table_validated_by self.now) p.now) }
+        ensures reach { mode_of mode ≡ strict → IfOk result (InReachUnlessWrong (schema_validated_by self.now) (table_validated_by self.now) max_deref_level p.now) }
     {
         let level = EntityDerefLevel::from(max_deref_level);
         validate_policy_with_level(self.alloc, &self.asked, mode, p, level)

@@ -4,3 +4,4 @@ pub mod Steps
 pub mod Surface
 pub mod Marked
 pub mod Kinds
+pub mod Nodes

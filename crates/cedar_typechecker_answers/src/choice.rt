@@ -1,13 +1,13 @@
 //! Choices.
 
-ghost use Rattle.std.specs.Prelude.{◌≡◌, option_map, option_and_then, IfOk};
+ghost use Rattle.std.specs.Prelude.{◌≡◌, option_map, IfOk};
 ghost use Rattle.cedar_expr_model.specs.Tree.{choice};
 ghost use Rattle.cedar_expr_trees.specs.Trees.{tree_of, data_of};
 ghost use Rattle.cedar_typechecker_environments.specs.Facts.{facts_of};
-ghost use Rattle.cedar_typechecker_answers.specs.Marked.{marks_of};
-ghost use Rattle.cedar_typechecker_model.specs.Typed.{choice_step as model_choice_step, first_typed, second_typed, noted, three};
+ghost use Rattle.cedar_typechecker_model.specs.Typed.{choice_step as model_choice_step, first_typed, second_typed};
 ghost use Rattle.cedar_typechecker_answers.specs.Answers.{seen, known_of_both, judgement_seen, branch_judged};
 ghost use Rattle.cedar_typechecker_answers.specs.Steps.{choice_step_seen};
+ghost use Rattle.cedar_typechecker_answers.specs.Nodes.{Judges, node_of_three, by_two};
 
 use crate::answer::{Judged, TypecheckAnswer, judged_node};
 use crate::faults::{Faults, TypingErrorKind, failed, no_type};
@@ -45,7 +45,7 @@ pub enum ChoiceStep<'a> {
     },
 }
 
-/// What follows the test of a choice: behind True and False the branch that is taken alone is typed.
+/// What follows the test of a choice: after True and False the branch that is taken alone is typed.
 pub fn choice_step<'a>(
     known: &CapabilitySet<'a>,
     faults: &mut Faults,
@@ -107,7 +107,7 @@ pub fn first_answer<'a>(
     first: TypecheckAnswer<'a>,
     second: &Expr,
 ) -> Result<TypecheckAnswer<'a>, AllocError>
-    ensures { IfOk result (λ a. seen a ≡ option_and_then (λ x. option_and_then (first_typed (tree_of second.now) x) (seen first.entry)) (seen test.entry)) }
+    ensures { IfOk result (λ a. seen a ≡ by_two (first_typed (tree_of second.now)) test.entry first.entry) }
 {
     let second = untyped(alloc, second)?;
     let known = known_of_both(alloc, &test, &first)?;
@@ -159,7 +159,7 @@ fn first_node<'a>(
     second: Expr<Option<Type>>,
     known: CapabilitySet<'a>,
 ) -> Result<TypecheckAnswer<'a>, AllocError>
-    ensures { IfOk result (λ a. seen a ≡ noted (choice (tree_of test) (tree_of first) (tree_of second)) (three (marks_of test) (marks_of first) (marks_of second)) (branch_judged (data_of test) (data_of first) (facts_of known.entry))) }
+    ensures { IfOk result (λ a. seen a ≡ node_of_three choice test first second (branch_judged (data_of test) (data_of first) (facts_of known.entry))) }
 {
     let judged = branch_judgement(&test, &first, known)?;
     let wrong = TypingErrorKind::UnexpectedType;
@@ -175,7 +175,7 @@ pub fn second_answer<'a>(
     first: &Expr,
     second: TypecheckAnswer<'a>,
 ) -> Result<TypecheckAnswer<'a>, AllocError>
-    ensures { IfOk result (λ a. seen a ≡ option_and_then (λ x. option_and_then (second_typed (tree_of first.now) x) (seen second.entry)) (seen test.entry)) }
+    ensures { IfOk result (λ a. seen a ≡ by_two (second_typed (tree_of first.now)) test.entry second.entry) }
 {
     let first = untyped(alloc, first)?;
     match (test, second) {
@@ -203,7 +203,7 @@ fn second_node<'a>(
     second: Expr<Option<Type>>,
     known: CapabilitySet<'a>,
 ) -> Result<TypecheckAnswer<'a>, AllocError>
-    ensures { IfOk result (λ a. seen a ≡ noted (choice (tree_of test) (tree_of first) (tree_of second)) (three (marks_of test) (marks_of first) (marks_of second)) (branch_judged (data_of test) (data_of second) (facts_of known.entry))) }
+    ensures { IfOk result (λ a. seen a ≡ node_of_three choice test first second (branch_judged (data_of test) (data_of second) (facts_of known.entry))) }
 {
     let judged = branch_judgement(&test, &second, known)?;
     let wrong = TypingErrorKind::UnexpectedType;
@@ -216,7 +216,7 @@ fn branch_judgement<'a>(
     branch: &Expr<Option<Type>>,
     known: CapabilitySet<'a>,
 ) -> Result<Option<Judged<'a>>, AllocError>
-    ensures { IfOk result (λ j. option_map judgement_seen j ≡ branch_judged (data_of test.now) (data_of branch.now) (facts_of known.entry)) }
+    ensures { IfOk result (Judges (branch_judged (data_of test.now) (data_of branch.now) (facts_of known.entry))) }
 {
     match (test.data(), branch.data()) {
         (Some(_), Some(ty)) => Ok(Some(Judged {
@@ -238,7 +238,7 @@ pub fn choice_node<'a>(
     judged: Option<Judged<'a>>,
     wrong: TypingErrorKind,
 ) -> Result<TypecheckAnswer<'a>, AllocError>
-    ensures { IfOk result (λ a. seen a ≡ noted (choice (tree_of test) (tree_of first) (tree_of second)) (three (marks_of test) (marks_of first) (marks_of second)) (option_map judgement_seen judged.entry)) }
+    ensures { IfOk result (λ a. seen a ≡ node_of_three choice test first second (option_map judgement_seen judged.entry)) }
 {
     let (test_expr, then_expr, else_expr) = shared_three(alloc, test, first, second)?;
     let kind = ExprKind::If {

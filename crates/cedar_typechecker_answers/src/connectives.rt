@@ -9,10 +9,10 @@ ghost use Rattle.cedar_schema_types.specs.Kinds.{bool_type_of};
 ghost use Rattle.cedar_typechecker_environments.specs.Facts.{facts_of};
 ghost use Rattle.cedar_typechecker_model.specs.Facts.{no_facts};
 ghost use Rattle.cedar_typechecker_model.specs.Typing.{conjoined, disjoined};
-ghost use Rattle.cedar_typechecker_answers.specs.Marked.{marks_of};
-ghost use Rattle.cedar_typechecker_model.specs.Typed.{and_step as model_and_step, or_step as model_or_step, and_typed, or_typed, conjoined_by, disjoined_by, noted, two, blank};
+ghost use Rattle.cedar_typechecker_model.specs.Typed.{and_step as model_and_step, or_step as model_or_step, and_typed, or_typed, conjoined_by, disjoined_by};
 ghost use Rattle.cedar_typechecker_answers.specs.Answers.{seen, typed_at, judgement_seen, and_judged, or_judged};
 ghost use Rattle.cedar_typechecker_answers.specs.Steps.{goes_on_with, step_seen, true_where_true};
+ghost use Rattle.cedar_typechecker_answers.specs.Nodes.{Judges, node_of_two, node_of_first, by_two};
 
 use crate::answer::{Judged, TypecheckAnswer, judged_node};
 use crate::faults::{Faults, TypingErrorKind, failed, no_type};
@@ -38,7 +38,7 @@ pub enum Step<'a> {
     },
 }
 
-/// What follows the left side of a conjunction: behind False the right side isn't typed.
+/// What follows the left side of a conjunction: after False the right side isn't typed.
 pub fn and_step<'a>(
     alloc: Global,
     known: &CapabilitySet<'a>,
@@ -97,7 +97,7 @@ fn and_left_alone<'a>(
     right: &Expr,
     judged: Judged<'a>,
 ) -> Result<TypecheckAnswer<'a>, AllocError>
-    ensures { IfOk result (λ a. seen a ≡ noted (both (tree_of left) (tree_of right.now)) (two (marks_of left) (blank (tree_of right.now))) (Some (judgement_seen judged.entry))) }
+    ensures { IfOk result (λ a. seen a ≡ node_of_first both left (tree_of right.now) (Some (judgement_seen judged.entry))) }
 {
     let right = untyped(alloc, right)?;
     and_node(alloc, faults, place, left, right, Some(judged))
@@ -112,7 +112,7 @@ fn and_node<'a>(
     right: Expr<Option<Type>>,
     judged: Option<Judged<'a>>,
 ) -> Result<TypecheckAnswer<'a>, AllocError>
-    ensures { IfOk result (λ a. seen a ≡ noted (both (tree_of left) (tree_of right)) (two (marks_of left) (marks_of right)) (option_map judgement_seen judged.entry)) }
+    ensures { IfOk result (λ a. seen a ≡ node_of_two both left right (option_map judgement_seen judged.entry)) }
 {
     let (left, right) = shared_two(alloc, left, right)?;
     let kind = ExprKind::And { left, right };
@@ -127,7 +127,7 @@ pub fn and_answer<'a>(
     left: TypecheckAnswer<'a>,
     right: TypecheckAnswer<'a>,
 ) -> Result<TypecheckAnswer<'a>, AllocError>
-    ensures { IfOk result (λ a. seen a ≡ option_and_then (λ x. option_and_then (and_typed x) (seen right.entry)) (seen left.entry)) }
+    ensures { IfOk result (λ a. seen a ≡ by_two and_typed left.entry right.entry) }
 {
     let judged = and_judgement(alloc, &left, &right)?;
     match (left, right) {
@@ -151,7 +151,7 @@ fn and_judgement<'a>(
     left: &TypecheckAnswer<'a>,
     right: &TypecheckAnswer<'a>,
 ) -> Result<Option<Judged<'a>>, AllocError>
-    ensures { IfOk result (λ j. option_map judgement_seen j ≡ option_and_then (λ x. option_and_then (and_judged x) (seen right.now)) (seen left.now)) }
+    ensures { IfOk result (Judges (option_and_then (λ x. option_and_then (and_judged x) (seen right.now)) (seen left.now))) }
 {
     match (left, right) {
         (
@@ -179,7 +179,7 @@ fn conjoined<'a>(
     right: &Type,
     other: &CapabilitySet<'a>,
 ) -> Result<Option<Judged<'a>>, AllocError>
-    ensures { IfOk result (λ j. option_map judgement_seen j ≡ conjoined_by (type_of left.now) (facts_of own.now) (type_of right.now) (facts_of other.now)) }
+    ensures { IfOk result (Judges (conjoined_by (type_of left.now) (facts_of own.now) (type_of right.now) (facts_of other.now))) }
 {
     match left {
         Type::Bool(b) => conjoined_bool(alloc, *b, own, right, other),
@@ -201,7 +201,7 @@ fn conjoined_bool<'a>(
     right: &Type,
     other: &CapabilitySet<'a>,
 ) -> Result<Option<Judged<'a>>, AllocError>
-    ensures { IfOk result (λ j. option_map judgement_seen j ≡ conjoined (bool_type_of left) (facts_of own.now) (type_of right.now) (facts_of other.now)) }
+    ensures { IfOk result (Judges (conjoined (bool_type_of left) (facts_of own.now) (type_of right.now) (facts_of other.now))) }
 {
     match right {
         Type::Bool(BoolType::False) => Ok(Some(Judged {
@@ -236,7 +236,7 @@ fn true_where_true(b: BoolType) -> BoolType
     }
 }
 
-/// What follows the left side of a disjunction: behind True the right side isn't typed.
+/// What follows the left side of a disjunction: after True the right side isn't typed.
 pub fn or_step<'a>(
     alloc: Global,
     faults: &mut Faults,
@@ -303,7 +303,7 @@ fn or_left_alone<'a>(
     right: &Expr,
     judged: Judged<'a>,
 ) -> Result<TypecheckAnswer<'a>, AllocError>
-    ensures { IfOk result (λ a. seen a ≡ noted (either (tree_of left) (tree_of right.now)) (two (marks_of left) (blank (tree_of right.now))) (Some (judgement_seen judged.entry))) }
+    ensures { IfOk result (λ a. seen a ≡ node_of_first either left (tree_of right.now) (Some (judgement_seen judged.entry))) }
 {
     let right = untyped(alloc, right)?;
     or_node(alloc, faults, place, left, right, Some(judged))
@@ -318,7 +318,7 @@ fn or_node<'a>(
     right: Expr<Option<Type>>,
     judged: Option<Judged<'a>>,
 ) -> Result<TypecheckAnswer<'a>, AllocError>
-    ensures { IfOk result (λ a. seen a ≡ noted (either (tree_of left) (tree_of right)) (two (marks_of left) (marks_of right)) (option_map judgement_seen judged.entry)) }
+    ensures { IfOk result (λ a. seen a ≡ node_of_two either left right (option_map judgement_seen judged.entry)) }
 {
     let (left, right) = shared_two(alloc, left, right)?;
     let kind = ExprKind::Or { left, right };
@@ -333,7 +333,7 @@ pub fn or_answer<'a>(
     left: TypecheckAnswer<'a>,
     right: TypecheckAnswer<'a>,
 ) -> Result<TypecheckAnswer<'a>, AllocError>
-    ensures { IfOk result (λ a. seen a ≡ option_and_then (λ x. option_and_then (or_typed x) (seen right.entry)) (seen left.entry)) }
+    ensures { IfOk result (λ a. seen a ≡ by_two or_typed left.entry right.entry) }
 {
     match (left, right) {
         (
@@ -361,7 +361,7 @@ fn or_judgement<'a>(
     right: &Expr<Option<Type>>,
     other: CapabilitySet<'a>,
 ) -> Result<Option<Judged<'a>>, AllocError>
-    ensures { IfOk result (λ j. option_map judgement_seen j ≡ or_judged (data_of left.now) (facts_of own.entry) (data_of right.now) (facts_of other.entry)) }
+    ensures { IfOk result (Judges (or_judged (data_of left.now) (facts_of own.entry) (data_of right.now) (facts_of other.entry))) }
 {
     match (left.data(), right.data()) {
         (Some(first), Some(second)) => disjoined(alloc, first, own, second, other),
@@ -377,7 +377,7 @@ fn disjoined<'a>(
     right: &Type,
     other: CapabilitySet<'a>,
 ) -> Result<Option<Judged<'a>>, AllocError>
-    ensures { IfOk result (λ j. option_map judgement_seen j ≡ disjoined_by (type_of left.now) (facts_of own.entry) (type_of right.now) (facts_of other.entry)) }
+    ensures { IfOk result (Judges (disjoined_by (type_of left.now) (facts_of own.entry) (type_of right.now) (facts_of other.entry))) }
 {
     match left {
         Type::Bool(b) => disjoined_bool(alloc, *b, own, right, other),
@@ -399,7 +399,7 @@ fn disjoined_bool<'a>(
     right: &Type,
     other: CapabilitySet<'a>,
 ) -> Result<Option<Judged<'a>>, AllocError>
-    ensures { IfOk result (λ j. option_map judgement_seen j ≡ disjoined (bool_type_of left) (facts_of own.entry) (type_of right.now) (facts_of other.entry)) }
+    ensures { IfOk result (Judges (disjoined (bool_type_of left) (facts_of own.entry) (type_of right.now) (facts_of other.entry))) }
 {
     match right {
         Type::Bool(second) => Ok(Some(disjoined_bools(alloc, left, own, *second, other)?)),

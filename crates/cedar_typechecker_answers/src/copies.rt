@@ -1,13 +1,13 @@
 //! Copies without types.
 
-ghost use Rattle.std.specs.Prelude.{◌≡◌, true, None, map, IfOk};
-ghost use Rattle.cedar_expr_model.specs.Records.{names_rise};
-ghost use Rattle.cedar_expr_trees.specs.Trees.{tree_of, kind_tree, named};
+ghost use Rattle.std.specs.Prelude.{◌≡◌, None, map, IfOk};
+ghost use Rattle.cedar_expr_trees.specs.Trees.{tree_of, kind_tree};
 ghost use Rattle.cedar_typechecker_model.specs.Typed.{blank, mark};
 ghost use Rattle.cedar_typechecker_answers.specs.Marked.{marks_of, kind_marks, named_tree};
 
 use crate::kinds::{call_kind, record_kind, set_kind};
 use cedar_expr_trees::{Expr, ExprKind, Loc};
+use cedar_expr_values::fields::field_map;
 use cedar_schema_types::Type;
 use std::alloc::{AllocError, Global};
 use std::collections::BTreeMap;
@@ -143,14 +143,13 @@ fn untyped_all(alloc: Global, exprs: &[Expr]) -> Result<Vec<Untyped>, AllocError
 fn untyped_fields(
     alloc: Global,
     fields: &BTreeMap<RcStr, Expr>,
-) -> Result<Vec<(RcStr, Untyped)>, AllocError>
-    ensures rising { IfOk result (λ es. names_rise (named es.items) ≡ true) }
-    ensures trees { IfOk result (λ es. map named_tree es.items ≡ map named_tree fields.now.entries) }
-    ensures blank { IfOk result (λ es. map (λ e. marks_of e.1) es.items ≡ map (λ e. blank (tree_of e.1)) fields.now.entries) }
+) -> Result<BTreeMap<RcStr, Untyped>, AllocError>
+    ensures trees { IfOk result (λ es. map named_tree es.entries ≡ map named_tree fields.now.entries) }
+    ensures blank { IfOk result (λ es. map (λ e. marks_of e.1) es.entries ≡ map (λ e. blank (tree_of e.1)) fields.now.entries) }
 {
     let mut all = Vec::with_capacity(alloc, fields.len())?;
     for (name, e) in fields {
         all.push((name.clone()?, untyped(alloc, e)?))?;
     }
-    Ok(all)
+    field_map(alloc, all)
 }

@@ -66,7 +66,7 @@ pub fn failed<'a>(
     Ok(no_type())
 }
 
-/// The answer where a part has no type, of which the faults tell already.
+/// The answer where a part has no type, which the faults report already.
 pub fn no_type<'a>() -> TypecheckAnswer<'a>
     ensures { seen result ≡ None }
 {

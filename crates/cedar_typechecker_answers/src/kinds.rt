@@ -1,18 +1,17 @@
 //! Sets, calls and records of typed expressions.
 
-ghost use Rattle.std.specs.Prelude.{◌≡◌, true, map, IfOk};
+ghost use Rattle.std.specs.Prelude.{◌≡◌, map, IfOk};
 ghost use Rattle.cedar_expr_names.specs.Views.{plain_name_of};
 ghost use Rattle.cedar_expr_model.specs.Builder.{trees, tree_fields};
-ghost use Rattle.cedar_expr_model.specs.Records.{names_rise};
 ghost use Rattle.cedar_expr_model.specs.Tree.{call, set_literal, record_literal};
 ghost use Rattle.cedar_expr_trees.specs.Trees.{tree_of, kind_tree, named, field_trees};
 ghost use Rattle.cedar_typechecker_answers.specs.Marked.{marks_of, kind_marks, rows};
 
 use cedar_expr_names::Name;
 use cedar_expr_trees::{Expr, ExprKind};
-use cedar_expr_values::fields::field_map;
 use cedar_schema_types::Type;
 use std::alloc::{AllocError, Global};
+use std::collections::BTreeMap;
 use std::rc::{Rc, RcStr};
 
 /// The set of these members.
@@ -42,16 +41,15 @@ pub fn call_kind(
     Ok(ExprKind::ExtensionFunctionApp { fn_name, args })
 }
 
-/// The record of these fields. Their names rise.
+/// The record of these fields.
+#[tactic(auto, using(crate::proofs::RowMarks::record_marks, cedar_expr_trees::proofs::Trees::record_tree))]
 pub fn record_kind(
     alloc: Global,
-    fields: Vec<(RcStr, Expr<Option<Type>>)>,
+    fields: BTreeMap<RcStr, Expr<Option<Type>>>,
 ) -> Result<ExprKind<Option<Type>>, AllocError>
-    requires { names_rise (named fields.items) ≡ true }
-    ensures tree { IfOk result (λ k. kind_tree k ≡ record_literal (tree_fields (named (field_trees fields.items)))) }
-    ensures marks { IfOk result (λ k. kind_marks k ≡ rows (map (λ e. marks_of e.1) fields.items)) }
+    ensures tree { IfOk result (λ k. kind_tree k ≡ record_literal (tree_fields (named (field_trees fields.entries)))) }
+    ensures marks { IfOk result (λ k. kind_marks k ≡ rows (map (λ e. marks_of e.1) fields.entries)) }
 {
-    let fields = field_map(alloc, fields)?;
     let fields = Rc::new(alloc, fields)?;
     Ok(ExprKind::Record(fields))
 }

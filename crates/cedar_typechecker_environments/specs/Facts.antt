@@ -1,6 +1,6 @@
 -- What the code's facts are in the model.
 -- Rule: typing (docs/RULES.md).
-use Rattle.std.specs.Prelude.{Bool, List}
+use Rattle.std.specs.Prelude.{Bool, List, ◌≡◌, true}
 use Rattle.std.specs.List.{list_any}
 use Rattle.std.specs.Rc.{rc_str_bytes}
 use Rattle.cedar_expr_model.specs.Tree.{Tree}
@@ -25,3 +25,7 @@ facts_among ks = λ e p. list_any (is_of e p) ks
 
 abbrev pub facts_of : CapabilitySet → Facts
 facts_of c = facts_among c.capabilities
+
+-- What is equal is hashed alike.
+abbrev pub AreHashedAlike : {A B : Type 0} → (A → A → Bool) → (A → B) → Type 0
+AreHashedAlike {A} eq hash = (a b : A) → eq a b ≡ true → hash a ≡ hash b

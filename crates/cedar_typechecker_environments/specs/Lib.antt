@@ -3,3 +3,4 @@ pub mod Signatures
 pub mod Facts
 pub mod Merged
 pub mod Along
+pub mod Given

@@ -3,6 +3,7 @@ use Rattle.std.specs.Prelude.{List, [], ◌∷◌, true}
 use Rattle.std.specs.Ordering.{match_ordering}
 use Rattle.std.specs.Set.{sorted_merge}
 use Rattle.std.specs.declared.cmp.Ordering.{Ordering}
+use Rattle.cedar_typechecker_environments.specs.declared.merging.Both.{Both}
 
 module _ {K : Type 0} (cmp : K → K → Ordering) where
   -- the keys of either list
@@ -18,3 +19,10 @@ module _ {K : Type 0} (cmp : K → K → Ordering) where
   abbrev pub common : List K → List K → List K
   common [] ys = []
   common (x ∷ xs) ys = common_step x xs (common xs) ys
+
+  -- the keys of either list, and of both, that are left
+  abbrev pub left_of_either : Both K → List K
+  left_of_either b = merged b.left.now b.right.now
+
+  abbrev pub left_of_both : Both K → List K
+  left_of_both b = common b.left.now b.right.now

@@ -2,7 +2,7 @@
 
 ghost use Rattle.std.specs.Prelude.{◌≡◌, ◌∷◌, [], IfOk, MatchOption};
 ghost use Rattle.std.specs.List.{AllZip};
-ghost use Rattle.cedar_typechecker_environments.specs.Merged.{merged, common};
+ghost use Rattle.cedar_typechecker_environments.specs.Merged.{merged, common, left_of_either, left_of_both};
 
 use std::alloc::{AllocError, Global};
 use std::cmp::Ordering;
@@ -17,7 +17,7 @@ struct Both<'a, K> {
 impl<'a, K: Ord> Both<'a, K> {
     // Takes the least key that either list has from both.
     fn next_of_either(&mut self) -> Option<&'a K>
-        ensures { MatchOption result (merged K.cmp self.old.left.now self.old.right.now ≡ []) (λ k. merged K.cmp self.old.left.now self.old.right.now ≡ k.now ∷ merged K.cmp self.new.left.now self.new.right.now) }
+        ensures { MatchOption result (left_of_either K.cmp self.old ≡ []) (λ k. left_of_either K.cmp self.old ≡ k.now ∷ left_of_either K.cmp self.new) }
     {
         let Some((first, others)) = self.left.split_first() else {
             let Some((second, more)) = self.right.split_first() else {
@@ -49,7 +49,7 @@ impl<'a, K: Ord> Both<'a, K> {
 
     // Takes the least key that both lists have from both, and what is below it.
     fn next_of_both(&mut self) -> Option<&'a K>
-        ensures { MatchOption result (common K.cmp self.old.left.now self.old.right.now ≡ []) (λ k. common K.cmp self.old.left.now self.old.right.now ≡ k.now ∷ common K.cmp self.new.left.now self.new.right.now) }
+        ensures { MatchOption result (left_of_both K.cmp self.old ≡ []) (λ k. left_of_both K.cmp self.old ≡ k.now ∷ left_of_both K.cmp self.new) }
     {
         while let Some((first, others)) = self.left.split_first() {
             let Some((second, more)) = self.right.split_first() else {

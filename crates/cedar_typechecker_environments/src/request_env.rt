@@ -1,15 +1,15 @@
 //! Environments.
 
-ghost use Rattle.std.specs.Prelude.{◌≡◌, IfOk, None, option_map, if◌then◌else◌, Some};
+ghost use Rattle.std.specs.Prelude.{◌≡◌, IfOk, None, option_map, Some};
 ghost use Rattle.cedar_expr_names.specs.Views.{type_name_of, uid_of};
 ghost use Rattle.cedar_schema_model.specs.Types.{entity_type, record_type, is_closed};
-ghost use Rattle.cedar_schema_model.specs.Schema.{declares_action};
+ghost use Rattle.cedar_schema_model.specs.Environment.{with_slots};
 ghost use Rattle.cedar_schema_types.specs.Types.{type_of, attributes_of};
 ghost use Rattle.cedar_expr_leaves.specs.Slots.{slot_of};
 ghost use Rattle.cedar_store_model.specs.Policy.{binding_of};
 ghost use Rattle.cedar_store_parts.specs.Parts.{bindings_of};
 ghost use Rattle.cedar_store_parts.specs.Views.{kind_of};
-ghost use Rattle.cedar_typechecker_environments.specs.Settings.{environment_of};
+ghost use Rattle.cedar_typechecker_environments.specs.Settings.{environment_of, environment_without_slots, request_kind, with_bound_types, slot_type_seen, action_type};
 
 use crate::setting::TypingSchema;
 use cedar_expr_leaves::SlotId;
@@ -38,7 +38,7 @@ pub struct RequestEnv {
 impl RequestEnv {
     /// The environment of a request of these types, whose context has these attributes, without slots.
     pub fn of_request_type(kind: RequestType, context: Attributes) -> RequestEnv
-        ensures { environment_of result ≡ record { principal = type_name_of kind.principal; action = uid_of kind.action; resource = type_name_of kind.resource; context = attributes_of context; principal_slot = None; resource_slot = None } }
+        ensures { environment_of result ≡ environment_without_slots (kind_of kind) (attributes_of context) }
     {
         let RequestType {
             principal,
@@ -57,7 +57,7 @@ impl RequestEnv {
 
     /// The types of principal and resource, and the action.
     pub fn to_request_type(&self) -> Result<RequestType, AllocError>
-        ensures { IfOk result (λ k. kind_of k ≡ record { principal = (environment_of self.now).principal; action = (environment_of self.now).action; resource = (environment_of self.now).resource }) }
+        ensures { IfOk result (λ k. kind_of k ≡ request_kind (environment_of self.now)) }
     {
         let principal = self.principal.clone()?;
         let action = self.action.clone()?;
@@ -71,7 +71,7 @@ impl RequestEnv {
 
     /// The environment with the slots of the types that they are bound to. A slot that isn't bound has no type.
     pub fn link_slot_env(self, slot_env: &SlotEnv) -> Result<RequestEnv, AllocError>
-        ensures { IfOk result (λ e. environment_of e ≡ record (environment_of self) { principal_slot = option_map (λ u. u.kind) (bindings_of slot_env.now).principal; resource_slot = option_map (λ u. u.kind) (bindings_of slot_env.now).resource }) }
+        ensures { IfOk result (λ e. environment_of e ≡ with_bound_types (environment_of self) (bindings_of slot_env.now)) }
     {
         let principal = type_bound(slot_env, SlotId::principal())?;
         let resource = type_bound(slot_env, SlotId::resource())?;
@@ -84,7 +84,7 @@ impl RequestEnv {
         principal_slot: Option<EntityType>,
         resource_slot: Option<EntityType>,
     ) -> RequestEnv
-        ensures { environment_of result ≡ record (environment_of self) { principal_slot = option_map type_name_of principal_slot; resource_slot = option_map type_name_of resource_slot } }
+        ensures { environment_of result ≡ with_slots (environment_of self) (option_map type_name_of principal_slot) (option_map type_name_of resource_slot) }
     {
         let RequestEnv {
             principal,
@@ -110,7 +110,7 @@ impl RequestEnv {
         principal_slot: Option<&EntityType>,
         resource_slot: Option<&EntityType>,
     ) -> Result<RequestEnv, AllocError>
-        ensures { IfOk result (λ e. environment_of e ≡ record (environment_of self.now) { principal_slot = option_map (λ t. type_name_of t.now) principal_slot.entry; resource_slot = option_map (λ t. type_name_of t.now) resource_slot.entry }) }
+        ensures { IfOk result (λ e. environment_of e ≡ with_slots (environment_of self.now) (slot_type_seen principal_slot.entry) (slot_type_seen resource_slot.entry)) }
     {
         let kind = self.to_request_type()?;
         let context = self.context.clone()?;
@@ -147,7 +147,7 @@ impl RequestEnv {
         alloc: Global,
         schema: &S,
     ) -> Result<Option<Type>, AllocError>
-        ensures { IfOk result (λ t. option_map type_of t ≡ (if declares_action (S.schema schema.now) (environment_of self.now).action then Some (entity_type (environment_of self.now).action.kind) else None)) }
+        ensures { IfOk result (λ t. option_map type_of t ≡ action_type (S.schema schema.now) (environment_of self.now)) }
     {
         if schema.declares_action(&self.action) {
             let ty = self.action.entity_type().clone()?;
@@ -185,14 +185,14 @@ impl RequestEnv {
 
     /// The type of the principal's slot, if there is one.
     pub fn principal_slot(&self) -> Option<&EntityType>
-        ensures { option_map (λ t. type_name_of t.now) result ≡ (environment_of self.now).principal_slot }
+        ensures { slot_type_seen result ≡ (environment_of self.now).principal_slot }
     {
         self.principal_slot.as_ref()
     }
 
     /// The type of the resource's slot, if there is one.
     pub fn resource_slot(&self) -> Option<&EntityType>
-        ensures { option_map (λ t. type_name_of t.now) result ≡ (environment_of self.now).resource_slot }
+        ensures { slot_type_seen result ≡ (environment_of self.now).resource_slot }
     {
         self.resource_slot.as_ref()
     }
@@ -219,7 +219,7 @@ fn type_bound(slot_env: &SlotEnv, slot: SlotId) -> Result<Option<EntityType>, Al
 
 // A copy of the type of a slot, if it has one.
 fn slot_type(ty: Option<&EntityType>) -> Result<Option<EntityType>, AllocError>
-    ensures { IfOk result (λ t. option_map type_name_of t ≡ option_map (λ t. type_name_of t.now) ty.entry) }
+    ensures { IfOk result (λ t. option_map type_name_of t ≡ slot_type_seen ty.entry) }
 {
     match ty {
         Some(ty) => Ok(Some(ty.clone()?)),

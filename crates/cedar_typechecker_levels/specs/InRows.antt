@@ -15,6 +15,8 @@ use Rattle.cedar_typechecker_model.specs.Levels.{Violation}
 use Rattle.cedar_typechecker_model.specs.Rules.{Setting}
 use Rattle.cedar_typechecker_model.specs.Reported.{steps, reported, reached}
 use Rattle.cedar_typechecker_levels.specs.Marked.{marks_of}
+use Rattle.cedar_typechecker_levels.specs.Paths.{path_of}
+use Rattle.cedar_typechecker_levels.specs.declared.path.Path.{Path}
 
 abbrev pub Fields : Type 0
 Fields = List (RcStr Global × Expr (Option CodeType))
@@ -41,3 +43,7 @@ others_in n s a (p ∷ ps) = if bytes_eq a (rc_str_bytes p.0) then flat_map (rep
 abbrev pub reached_in : ℕ → Setting → Text → List Text → Fields → List Violation
 reached_in n s a path [] = []
 reached_in n s a path (p ∷ ps) = if bytes_eq a (rc_str_bytes p.0) then reached_of n s path p.1 else reached_in n s a path ps
+
+-- by names of the code
+abbrev pub field_reached : ℕ → Setting → RcStr Global → Path → Fields → List Violation
+field_reached n s a path ps = reached_in n s (rc_str_bytes a) (path_of path) ps

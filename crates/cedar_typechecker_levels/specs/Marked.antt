@@ -1,11 +1,15 @@
 -- The types of an expression and its parts, as the data of a code expression has them.
 -- Rule: levels (docs/RULES.md).
-use Rattle.std.specs.Prelude.{Option, option_map}
+use Rattle.std.specs.Prelude.{Option, option_map, ℕ, List}
+use Rattle.cedar_expr_trees.specs.Trees.{tree_of}
 use Rattle.cedar_expr_trees.specs.declared.expr.Expr.{Expr}
 use Rattle.cedar_expr_trees.specs.declared.expr.ExprKind.{ExprKind, Row_of-Expr, end_of-Expr, more_of-Expr, Lit, Var, Slot, Unknown, If', And', Or', UnaryApp', BinaryApp', ExtensionFunctionApp', GetAttr', HasAttr', ExtHasAttr', Like', Is', Set', Record'}
 use Rattle.cedar_schema_model.specs.Types.{Ty}
 use Rattle.cedar_schema_types.specs.Types.{type_of}
 use Rattle.cedar_schema_types.specs.declared.types.Type.{«Type» as CodeType}
+use Rattle.cedar_typechecker_model.specs.Counts.{violations_at}
+use Rattle.cedar_typechecker_model.specs.Levels.{Violation}
+use Rattle.cedar_typechecker_model.specs.Rules.{Setting}
 use Rattle.cedar_typechecker_model.specs.Typed.{Marks, mark, MarkRow, no_marks, marks, one, two, three}
 
 abbrev pub type_in : Option CodeType → Option Ty
@@ -39,3 +43,7 @@ abbrev mutual
 -- the types of an expression and its parts
 abbrev pub marks_of : Expr (Option CodeType) → Marks
 marks_of e = mark (type_in e.«data») (kind_marks e.expr_kind)
+
+-- the violations of an expression with the types of its parts
+abbrev pub typed_violations : ℕ → Setting → Expr (Option CodeType) → List Violation
+typed_violations n s e = violations_at n s (tree_of e) (marks_of e)

@@ -6,7 +6,7 @@ ghost use Rattle.cedar_schema_types.specs.Types.{type_of};
 ghost use Rattle.cedar_typechecker_environments.specs.Settings.{setting_of};
 ghost use Rattle.cedar_typechecker_model.specs.Levels.{is_entity, needed, entity_steps, fields_before};
 ghost use Rattle.cedar_typechecker_model.specs.Typing.{step_type};
-ghost use Rattle.cedar_typechecker_levels.specs.Along.{entity_steps_along, fields_along};
+ghost use Rattle.cedar_typechecker_levels.specs.Along.{entity_steps_along, fields_along, path_steps, path_fields};
 ghost use Rattle.cedar_typechecker_levels.specs.Marked.{type_in};
 ghost use Rattle.cedar_typechecker_levels.specs.Paths.{path_of};
 
@@ -48,7 +48,7 @@ pub(crate) fn entity_steps<S: TypingSchema>(
     ty: &Option<Type>,
     attrs: &NonEmpty<RcStr>,
 ) -> Result<u64, AllocError>
-    ensures { IfOk result (λ k. k ≡ needed (entity_steps (setting_of S.schema S.table world.now) (rc_str_bytes attrs.now.head) (map rc_str_bytes attrs.now.tail.items) (type_in ty.now))) }
+    ensures { IfOk result (λ k. k ≡ needed (path_steps (setting_of S.schema S.table world.now) attrs.now ty.now)) }
 {
     match ty {
         None => Ok(0),
@@ -90,7 +90,7 @@ pub(crate) fn fields_before<'p, S: TypingSchema>(
     ty: &Option<Type>,
     attrs: &'p NonEmpty<RcStr>,
 ) -> Result<Path<'p>, AllocError>
-    ensures { IfOk result (λ p. path_of p ≡ fields_before (setting_of S.schema S.table world.now) (rc_str_bytes attrs.entry.now.head) (map rc_str_bytes attrs.entry.now.tail.items) (type_in ty.now)) }
+    ensures { IfOk result (λ p. path_of p ≡ path_fields (setting_of S.schema S.table world.now) attrs.entry.now ty.now) }
 {
     match ty {
         None => Ok(Path::End),

@@ -63,7 +63,7 @@ pub(crate) fn is_entity_type(ty: &Type) -> bool
     }
 }
 
-// True, of each kind of types of entities.
+// True, of each type of entities.
 fn is_kind(kind: &EntityKind) -> bool
     ensures entity { result ≡ is_entity (Some (entities_of kind.now)) }
     ensures is_true { result ≡ may_be_true (Some (entities_of kind.now)) }

@@ -1,13 +1,13 @@
 //! Violations.
 
-ghost use Rattle.std.specs.Prelude.{◌≡◌, ◌++◌, ◌∷◌, [], map, OnOk, Some, None};
+ghost use Rattle.std.specs.Prelude.{◌≡◌, ◌∷◌, [], OnOk, Some, None};
 ghost use Rattle.cedar_expr_leaves.specs.Literals.{literal_of};
 ghost use Rattle.cedar_expr_model.specs.Tree.{lit};
 ghost use Rattle.cedar_expr_trees.specs.Trees.{tree_of};
 ghost use Rattle.cedar_typechecker_environments.specs.Settings.{setting_of};
 ghost use Rattle.cedar_typechecker_model.specs.Levels.{literal_count};
 ghost use Rattle.cedar_typechecker_model.specs.Reported.{too_far};
-ghost use Rattle.cedar_typechecker_levels.specs.Views.{violation_of};
+ghost use Rattle.cedar_typechecker_levels.specs.Views.{AddsViolations};
 
 use cedar_expr_leaves::Literal;
 use cedar_expr_trees::Expr;
@@ -32,7 +32,7 @@ pub(crate) fn add_step<'a>(
     needed: u64,
     level: u32,
 ) -> Result<(), AllocError>
-    ensures { OnOk result (map violation_of found.new.items ≡ map violation_of found.old.items ++ too_far level (tree_of at.entry.now) needed) }
+    ensures { OnOk result (AddsViolations found.old found.new (too_far level (tree_of at.entry.now) needed)) }
 {
     if needed > level as u64 {
         found.push(LevelViolation {
@@ -48,7 +48,7 @@ pub(crate) fn add_target<'a>(
     found: &mut Vec<LevelViolation<'a>>,
     at: &'a Expr<Option<Type>>,
 ) -> Result<(), AllocError>
-    ensures { OnOk result (map violation_of found.new.items ≡ map violation_of found.old.items ++ record { at = tree_of at.entry.now; required = None } ∷ []) }
+    ensures { OnOk result (AddsViolations found.old found.new (record { at = tree_of at.entry.now; required = None } ∷ [])) }
 {
     found.push(LevelViolation { at, required: None })?;
     Ok(())
@@ -62,7 +62,7 @@ pub(crate) fn add_literal<'a, S: TypingSchema>(
     literal: &Literal,
 ) -> Result<(), AllocError>
     requires { tree_of at.now ≡ lit (literal_of literal.now) }
-    ensures { OnOk result (map violation_of found.new.items ≡ map violation_of found.old.items ++ (literal_count (setting_of S.schema S.table world.now) (literal_of literal.now)).found) }
+    ensures { OnOk result (AddsViolations found.old found.new (literal_count (setting_of S.schema S.table world.now) (literal_of literal.now)).found) }
 {
     match literal {
         Literal::EntityUID(uid) => {

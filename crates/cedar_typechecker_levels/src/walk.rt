@@ -1,16 +1,14 @@
 //! The walk along a typed expression.
 
-ghost use Rattle.std.specs.Prelude.{◌≡◌, ◌++◌, map, OnOk, IfOk};
+ghost use Rattle.std.specs.Prelude.{◌≡◌, map, OnOk, IfOk};
 ghost use Rattle.std.specs.BTreeMap.{values};
 ghost use Rattle.std.specs.List.{flat_map};
 ghost use Rattle.std.specs.Rc.{rc_str_bytes};
-ghost use Rattle.cedar_expr_trees.specs.Trees.{tree_of};
 ghost use Rattle.cedar_typechecker_environments.specs.Settings.{setting_of};
-ghost use Rattle.cedar_typechecker_model.specs.Counts.{violations_at};
-ghost use Rattle.cedar_typechecker_levels.specs.InRows.{reported_of, reached_of, others_in, reached_in};
-ghost use Rattle.cedar_typechecker_levels.specs.Marked.{marks_of};
+ghost use Rattle.cedar_typechecker_levels.specs.InRows.{reported_of, reached_of, others_in, field_reached};
+ghost use Rattle.cedar_typechecker_levels.specs.Marked.{typed_violations};
 ghost use Rattle.cedar_typechecker_levels.specs.Paths.{path_of};
-ghost use Rattle.cedar_typechecker_levels.specs.Views.{violation_of};
+ghost use Rattle.cedar_typechecker_levels.specs.Views.{violation_of, AddsViolations};
 
 use crate::along::{entity_steps, fields_before};
 use crate::fields::{field_of, fields_of, is_skipped, next_field};
@@ -35,7 +33,7 @@ pub fn level_violations<'a, S: TypingSchema>(
     level: EntityDerefLevel,
     expr: &'a Expr<Option<Type>>,
 ) -> Result<Vec<LevelViolation<'a>>, AllocError>
-    ensures { IfOk result (λ vs. map violation_of vs.items ≡ violations_at level.level (setting_of S.schema S.table world.now) (tree_of expr.entry.now) (marks_of expr.entry.now)) }
+    ensures { IfOk result (λ vs. map violation_of vs.items ≡ typed_violations level.level (setting_of S.schema S.table world.now) expr.entry.now) }
 {
     reported_are_violations();
     let mut found = Vec::new(alloc);
@@ -43,7 +41,7 @@ pub fn level_violations<'a, S: TypingSchema>(
     Ok(found)
 }
 
-// Puts the violations of the expression behind what was found.
+// Appends the violations of the expression to what was found.
 #[cycle(walk)]
 fn report<'a, S: TypingSchema>(
     alloc: Global,
@@ -52,7 +50,7 @@ fn report<'a, S: TypingSchema>(
     expr: &'a Expr<Option<Type>>,
     found: &mut Vec<LevelViolation<'a>>,
 ) -> Result<(), AllocError>
-    ensures { OnOk result (map violation_of found.new.items ≡ map violation_of found.old.items ++ reported_of level (setting_of S.schema S.table world.now) expr.entry.now) }
+    ensures { OnOk result (AddsViolations found.old found.new (reported_of level (setting_of S.schema S.table world.now) expr.entry.now)) }
 {
     match expr.expr_kind() {
         ExprKind::Lit(_) | ExprKind::Var(_) | ExprKind::Slot(_) | ExprKind::Unknown(_) => Ok(()),
@@ -142,7 +140,7 @@ fn report<'a, S: TypingSchema>(
     }
 }
 
-// Puts the violations of each of these expressions behind what was found.
+// Appends the violations of each of these expressions to what was found.
 #[cycle(walk)]
 fn report_all<'a, S: TypingSchema>(
     alloc: Global,
@@ -151,7 +149,7 @@ fn report_all<'a, S: TypingSchema>(
     exprs: &'a [Expr<Option<Type>>],
     found: &mut Vec<LevelViolation<'a>>,
 ) -> Result<(), AllocError>
-    ensures { OnOk result (map violation_of found.new.items ≡ map violation_of found.old.items ++ flat_map (reported_of level (setting_of S.schema S.table world.now)) exprs.entry.now) }
+    ensures { OnOk result (AddsViolations found.old found.new (flat_map (reported_of level (setting_of S.schema S.table world.now)) exprs.entry.now)) }
 {
     for e in exprs {
         report(alloc, world, level, e, found)?;
@@ -159,7 +157,7 @@ fn report_all<'a, S: TypingSchema>(
     Ok(())
 }
 
-// Puts the violations of the expression of each field behind what was found.
+// Appends the violations of the expression of each field to what was found.
 #[cycle(walk)]
 fn report_fields<'a, S: TypingSchema>(
     alloc: Global,
@@ -168,7 +166,7 @@ fn report_fields<'a, S: TypingSchema>(
     fields: &'a BTreeMap<RcStr, Expr<Option<Type>>>,
     found: &mut Vec<LevelViolation<'a>>,
 ) -> Result<(), AllocError>
-    ensures { OnOk result (map violation_of found.new.items ≡ map violation_of found.old.items ++ flat_map (reported_of level (setting_of S.schema S.table world.now)) (values fields.entry.now)) }
+    ensures { OnOk result (AddsViolations found.old found.new (flat_map (reported_of level (setting_of S.schema S.table world.now)) (values fields.entry.now))) }
 {
     let mut left = fields_of(fields);
     while let Some((_, e)) = next_field(&mut left) {
@@ -177,7 +175,7 @@ fn report_fields<'a, S: TypingSchema>(
     Ok(())
 }
 
-// Puts the violations of the expression of each field but the first of this name behind what was found.
+// Appends the violations of the expression of each field but the first of this name to what was found.
 #[cycle(walk)]
 fn report_others<'a, S: TypingSchema>(
     alloc: Global,
@@ -187,7 +185,7 @@ fn report_others<'a, S: TypingSchema>(
     name: &RcStr,
     found: &mut Vec<LevelViolation<'a>>,
 ) -> Result<(), AllocError>
-    ensures { OnOk result (map violation_of found.new.items ≡ map violation_of found.old.items ++ others_in level (setting_of S.schema S.table world.now) (rc_str_bytes name.now) fields.entry.now.entries) }
+    ensures { OnOk result (AddsViolations found.old found.new (others_in level (setting_of S.schema S.table world.now) (rc_str_bytes name.now) fields.entry.now.entries)) }
 {
     let mut left = fields_of(fields);
     let mut is_past = false;
@@ -201,7 +199,7 @@ fn report_others<'a, S: TypingSchema>(
     Ok(())
 }
 
-// Puts the violations on the way to what the path leads to from the expression behind what was found.
+// Appends the violations on the way to what the path leads to from the expression to what was found.
 #[cycle(walk)]
 fn reach<'a, S: TypingSchema>(
     alloc: Global,
@@ -211,7 +209,7 @@ fn reach<'a, S: TypingSchema>(
     path: &Path<'_>,
     found: &mut Vec<LevelViolation<'a>>,
 ) -> Result<(), AllocError>
-    ensures { OnOk result (map violation_of found.new.items ≡ map violation_of found.old.items ++ reached_of level (setting_of S.schema S.table world.now) (path_of path.now) expr.entry.now) }
+    ensures { OnOk result (AddsViolations found.old found.new (reached_of level (setting_of S.schema S.table world.now) (path_of path.now) expr.entry.now)) }
 {
     match expr.expr_kind() {
         ExprKind::Lit(literal) => add_literal(world, found, expr, literal),
@@ -273,7 +271,7 @@ fn reach<'a, S: TypingSchema>(
     }
 }
 
-// Puts the violations on the way to what the path leads to from the first field of this name, if there is one, behind what was found.
+// Appends the violations on the way to what the path leads to from the first field of this name, if there is one, to what was found.
 #[cycle(walk)]
 fn reach_in<'a, S: TypingSchema>(
     alloc: Global,
@@ -284,7 +282,7 @@ fn reach_in<'a, S: TypingSchema>(
     others: &Path<'_>,
     found: &mut Vec<LevelViolation<'a>>,
 ) -> Result<(), AllocError>
-    ensures { OnOk result (map violation_of found.new.items ≡ map violation_of found.old.items ++ reached_in level (setting_of S.schema S.table world.now) (rc_str_bytes name.now) (path_of others.now) fields.entry.now.entries) }
+    ensures { OnOk result (AddsViolations found.old found.new (field_reached level (setting_of S.schema S.table world.now) name.now others.now fields.entry.now.entries)) }
 {
     match field_of(fields, name) {
         Some(e) => reach(alloc, world, level, e, &*others, found),

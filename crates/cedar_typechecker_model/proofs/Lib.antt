@@ -21,3 +21,5 @@ pub mod Choices
 pub mod SameCounts
 pub mod Alike
 pub mod Seen
+pub mod Mentions
+pub mod InReach

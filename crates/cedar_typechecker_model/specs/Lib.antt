@@ -23,3 +23,5 @@ pub mod Asked
 pub mod AlikeLaws
 pub mod SeenLaws
 pub mod AskedLaws
+pub mod Slice
+pub mod Reach

@@ -3,6 +3,7 @@
 ghost use Rattle.cedar_typechecker_model.specs.OfLaws.Simple.{SchemasAreOrderly};
 ghost use Rattle.cedar_typechecker_model.specs.Soundness.{TypesAreSimple, TypesAreSound};
 ghost use Rattle.cedar_typechecker_model.specs.PolicySoundness.{EnvironmentsCover, PassingIsSound, ImpossibleIsSound};
+ghost use Rattle.cedar_typechecker_model.specs.Reach.{LookupsAreInReach, ConditionsAreInReach};
 
 /// The schema of well-formed declarations is orderly, and under an orderly schema each type of an expression in Strict is simple: no
 /// union arises, and no record has a name twice.
@@ -30,4 +31,11 @@ pub fn passing_policies_err_as_expected()
 /// An impossible policy isn't satisfied by any conforming request.
 pub fn impossible_policies_are_never_satisfied()
     ensures { ImpossibleIsSound }
+{}
+
+/// What a typed expression looks up is in the slice at a level where it has no violation, or is a declared action; the same of the
+/// condition of a policy. Entities outside of the slice may be anything.
+pub fn lookups_are_in_reach()
+    ensures expressions { LookupsAreInReach }
+    ensures conditions { ConditionsAreInReach }
 {}

@@ -9,7 +9,8 @@ use Rattle.std.specs.declared.rc.RcStr.{RcStr}
 use Rattle.cedar_expr_model.specs.Builder.{trees, tree_fields}
 use Rattle.cedar_expr_model.specs.Lists.{rises}
 use Rattle.cedar_expr_model.specs.Order.{text_cmp}
-use Rattle.cedar_expr_model.specs.Records.{names_rise}
+use Rattle.cedar_expr_model.specs.Name.{Text}
+use Rattle.cedar_expr_model.specs.Records.{in_order, names_rise}
 use Rattle.cedar_expr_values.proofs.Ascending.{names_ascend}
 use Rattle.cedar_expr_trees.specs.Trees.{tree_of, named, field_trees}
 use Rattle.cedar_expr_trees.specs.declared.expr.Expr.{Expr}
@@ -18,6 +19,7 @@ use Rattle.cedar_typechecker_model.specs.Facts.{Facts, no_facts}
 use Rattle.cedar_typechecker_model.specs.Rules.{Setting}
 use Rattle.cedar_typechecker_model.specs.Typed.{Typed, Row, no_row, row_with, FieldRow, no_field_row, field_row_with, typed, typed_row, typed_fields}
 use Rattle.cedar_typechecker_answers.specs.Answers.{typed_at}
+use Rattle.cedar_typechecker_answers.proofs.Fields.{same_fields}
 use Rattle.cedar_typechecker_operators.specs.Rows.{then_row, then_fields}
 
 drop_here : {A : Type 0} (es : List A) (i : ℕ) (e d : A) → i < length es → e ≡ get_or es i d → drop i es ≡ e ∷ drop (i + 1) es
@@ -127,3 +129,15 @@ names_of_fields (e ∷ es) = ap (λ ns. rc_str_bytes e.0 ∷ ns) (names_of_field
 
 pub rise_by_names : {A B : Type 0} (made : List (RcStr Global × A)) (es : List (RcStr Global × B)) → map (λ e. rc_str_bytes e.0) made ≡ map (λ e. rc_str_bytes e.0) es → IsStrictlySortedBy (λ x y. text_cmp (rc_str_bytes x) (rc_str_bytes y)) (keys_of es) → names_rise (named made) ≡ true
 rise_by_names made es e s = ap (rises text_cmp) (names_of_fields made ∙ e ∙ sym (names_of_fields es)) ∙ names_ascend es s
+
+-- fields whose names rise are those of their map
+abbrev then_named : List (Text × Expr (Option CodeType)) → Option FieldRow → Option FieldRow
+then_named [] o = o
+then_named (p ∷ ps) o = option_and_then (λ x. option_map (field_row_with p.0 x) (then_named ps o)) (typed_at p.1 no_facts p.1.«data»)
+
+by_names : (es : List (RcStr Global × Expr (Option CodeType))) (o : Option FieldRow) → then_fields es o ≡ then_named (named es) o
+by_names [] o = refl
+by_names (e ∷ es) o = ap (λ r. option_and_then (λ x. option_map (field_row_with (rc_str_bytes e.0) x) r) (typed_at e.1 no_facts e.1.«data»)) (by_names es o)
+
+pub fields_in_order : (es ps : List (RcStr Global × Expr (Option CodeType))) (o : Option FieldRow) → names_rise (named ps) ≡ true → named es ≡ in_order (named ps) → then_fields es o ≡ then_fields ps o
+fields_in_order es ps o h e = by_names es o ∙ ap (λ ns. then_named ns o) (same_fields es ps h e) ∙ sym (by_names ps o)

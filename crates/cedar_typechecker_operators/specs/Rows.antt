@@ -1,13 +1,12 @@
 -- Expressions in a row, and fields, with the types of their parts.
 -- Rule: typing (docs/RULES.md).
-use Rattle.std.specs.Prelude.{List, [], ◌∷◌, Bool, true, Option, Some, None, option_map, option_and_then}
+use Rattle.std.specs.Prelude.{List, [], ◌∷◌, true, Option, Some, None, option_map, option_and_then}
 use Rattle.std.specs.Rc.{rc_str_bytes}
 use Rattle.std.specs.declared.alloc.Global.{Global}
+use Rattle.std.specs.declared.collections.BTreeMap.{BTreeMap}
 use Rattle.std.specs.declared.rc.RcStr.{RcStr}
 use Rattle.std.specs.declared.vec.Vec.{Vec}
 use Rattle.cedar_expr_model.specs.Name.{Text}
-use Rattle.cedar_expr_model.specs.Records.{names_rise}
-use Rattle.cedar_expr_trees.specs.Trees.{named}
 use Rattle.cedar_expr_trees.specs.declared.expr.Expr.{Expr}
 use Rattle.cedar_schema_model.specs.Types.{Ty, Declared}
 use Rattle.cedar_schema_types.specs.declared.types.Type.{«Type» as CodeType}
@@ -30,14 +29,9 @@ abbrev pub then_fields : List (RcStr Global × Expr (Option CodeType)) → Optio
 then_fields [] o = o
 then_fields (p ∷ ps) o = option_and_then (λ x. option_map (field_row_with (rc_str_bytes p.0) x) (then_fields ps o)) (typed_at p.1 no_facts p.1.«data»)
 
-abbrev pub fields_found : Option (Vec (RcStr Global × Expr (Option CodeType)) Global) → Option FieldRow
+abbrev pub fields_found : Option (BTreeMap (RcStr Global) (Expr (Option CodeType)) Global) → Option FieldRow
 fields_found None = None
-fields_found (Some v) = then_fields v.items (Some no_field_row)
-
--- their names rise
-abbrev pub rising_found : Option (Vec (RcStr Global × Expr (Option CodeType)) Global) → Bool
-rising_found None = true
-rising_found (Some v) = names_rise (named v.items)
+fields_found (Some m) = then_fields m.entries (Some no_field_row)
 
 -- the type of an expression, and of a field, which is required
 abbrev pub type_at : Expr (Option CodeType) → Option Ty

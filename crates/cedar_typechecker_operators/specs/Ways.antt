@@ -31,11 +31,11 @@ tests_judged ks = record { type = bool_type (type_of_tests ks); facts = facts_am
 abbrev pub with_rest : List Capability → Option Judgement → Option Judgement
 with_rest ks rest = option_and_then (λ r. conjoined (type_of_tests ks) (facts_among ks) r.type r.facts) rest
 
--- what is left behind the next step
+-- what is left after the next step
 abbrev pub stepped : Setting → Text → Tree → Ty → Text → List Text → Option Judgement
 stepped s a e t b bs = option_and_then (path_judged s b bs (get_attr e a)) (step_type s t a)
 
--- the judgement of the whole path by the way gone and what is left, before the next test and behind it
+-- the judgement of the whole path by the way gone and what is left, before the next test and after it
 abbrev pub judged_on : Setting → Way → Text → List Text → Option Judgement
 judged_on s w a bs = with_rest w.facts.items (path_judged s a bs (tree_of w.at.value) (type_of w.ty))
 
@@ -49,7 +49,7 @@ Lead u ks = AlongPath ks × AllByRecursion (LeadsTo u) ks
 abbrev pub IsOnPath : Way → Type 0
 IsOnPath w = Lead (tree_of w.at.value) w.facts.items
 
--- the same behind the next step
+-- the same after the next step
 abbrev pub IsPast : Way → Text → Type 0
 IsPast w a = Lead (get_attr (tree_of w.at.value) a) w.facts.items
 
@@ -62,3 +62,10 @@ IsNoted w a v = (tree_of v.at.value ≡ tree_of w.at.value) × (type_of v.ty ≡
 abbrev pub PassesTo : Setting → (Text → List Text → Option Judgement) → Passed → Type 0
 PassesTo s whole (Done j) = (b : Text) (bs : List Text) → option_map judgement_seen j ≡ whole b bs
 PassesTo s whole (On v) = ((b : Text) (bs : List Text) → judged_on s v b bs ≡ whole b bs) × IsOnPath v
+
+-- from the way gone to this attribute, before its test and after it
+abbrev pub PassesOn : Setting → Way → Text → Passed → Type 0
+PassesOn s w a = PassesTo s (λ b bs. judged_on s w a (b ∷ bs))
+
+abbrev pub PassesPast : Setting → Way → Text → Passed → Type 0
+PassesPast s w a = PassesTo s (judged_past s w a)

@@ -1,18 +1,14 @@
 //! Operators of two operands.
 
-ghost use Rattle.std.specs.Prelude.{◌≡◌, option_map, option_and_then, IfOk};
+ghost use Rattle.std.specs.Prelude.{◌≡◌, option_map, IfOk};
 ghost use Rattle.cedar_expr_model.specs.Tree.{binary};
 ghost use Rattle.cedar_expr_leaves.specs.Operators.{binary_op_of};
-ghost use Rattle.cedar_expr_trees.specs.Trees.{tree_of};
 ghost use Rattle.cedar_schema_types.specs.Types.{type_of};
-ghost use Rattle.cedar_typechecker_environments.specs.Facts.{facts_of};
-ghost use Rattle.cedar_typechecker_model.specs.Facts.{tag_part};
-ghost use Rattle.cedar_typechecker_model.specs.Rules.{get_tag_type as model_get_tag_type, has_tag_type as model_has_tag_type};
-ghost use Rattle.cedar_typechecker_model.specs.Typing.{binary_judged, plain, tested as model_tested};
-ghost use Rattle.cedar_typechecker_environments.specs.Settings.{setting_of};
-ghost use Rattle.cedar_typechecker_model.specs.Typed.{binary_typed, noted, two};
-ghost use Rattle.cedar_typechecker_answers.specs.Marked.{marks_of};
+ghost use Rattle.cedar_typechecker_model.specs.Typing.{plain};
+ghost use Rattle.cedar_typechecker_environments.specs.Given.{GivesType};
 ghost use Rattle.cedar_typechecker_answers.specs.Answers.{seen, judgement_seen};
+ghost use Rattle.cedar_typechecker_answers.specs.Nodes.{Judges, node_of_two};
+ghost use Rattle.cedar_typechecker_operators.specs.Operators.{binary_by, binary_judged_by, binary_judged_of, known_tag, tag_tested};
 
 use crate::operators::tested;
 use cedar_expr_leaves::BinaryOp;
@@ -42,7 +38,7 @@ pub fn binary_answer<'a, S: TypingSchema>(
     first: TypecheckAnswer<'a>,
     second: TypecheckAnswer<'a>,
 ) -> Result<TypecheckAnswer<'a>, AllocError>
-    ensures { IfOk result (λ r. seen r ≡ option_and_then (λ x. option_and_then (binary_typed (setting_of S.schema S.table world.now) (facts_of known.now) (binary_op_of op) (tree_of a.entry.now) (tree_of b.entry.now) x) (seen second.entry)) (seen first.entry)) }
+    ensures { IfOk result (λ r. seen r ≡ binary_by S.schema S.table world.now known.now op a.entry.now b.entry.now first.entry second.entry) }
 {
     let judged = operands_judgement(alloc, world, known, op, a, b, &first, &second)?;
     match (first, second) {
@@ -70,7 +66,7 @@ fn binary_node<'a>(
     arg2: Expr<Option<Type>>,
     judged: Option<Judged<'a>>,
 ) -> Result<TypecheckAnswer<'a>, AllocError>
-    ensures { IfOk result (λ a. seen a ≡ noted (binary (binary_op_of op) (tree_of arg1) (tree_of arg2)) (two (marks_of arg1) (marks_of arg2)) (option_map judgement_seen judged.entry)) }
+    ensures { IfOk result (λ a. seen a ≡ node_of_two (binary (binary_op_of op)) arg1 arg2 (option_map judgement_seen judged.entry)) }
 {
     let (arg1, arg2) = shared_two(alloc, arg1, arg2)?;
     let kind = ExprKind::BinaryApp { op, arg1, arg2 };
@@ -88,7 +84,7 @@ fn operands_judgement<'a, S: TypingSchema>(
     first: &TypecheckAnswer<'a>,
     second: &TypecheckAnswer<'a>,
 ) -> Result<Option<Judged<'a>>, AllocError>
-    ensures { IfOk result (λ j. option_map judgement_seen j ≡ option_and_then (λ x. option_and_then (λ y. binary_judged (setting_of S.schema S.table world.now) (facts_of known.now) (binary_op_of op) (tree_of a.entry.now) (tree_of b.entry.now) x.type y.type) (seen second.now)) (seen first.now)) }
+    ensures { IfOk result (Judges (binary_judged_by S.schema S.table world.now known.now op a.entry.now b.entry.now first.now second.now)) }
 {
     match (first, second) {
         (
@@ -132,7 +128,7 @@ fn binary_judgement<'a, S: TypingSchema>(
     t: &Type,
     u: &Type,
 ) -> Result<Option<Judged<'a>>, AllocError>
-    ensures { IfOk result (λ j. option_map judgement_seen j ≡ binary_judged (setting_of S.schema S.table world.now) (facts_of known.now) (binary_op_of op) (tree_of a.entry.now) (tree_of b.entry.now) (type_of t.now) (type_of u.now)) }
+    ensures { IfOk result (Judges (binary_judged_of S.schema S.table world.now known.now op a.entry.now b.entry.now t.now u.now)) }
 {
     match op {
         BinaryOp::GetTag => {
@@ -177,7 +173,7 @@ fn known_tag_type<'a, S: TypingSchema>(
     t: &Type,
     u: &Type,
 ) -> Result<Option<Type>, AllocError>
-    ensures { IfOk result (λ r. option_map type_of r ≡ model_get_tag_type (setting_of S.schema S.table world.now) (facts_of known.now) (tree_of a.entry.now) (tree_of b.entry.now) (type_of t.now) (type_of u.now)) }
+    ensures { IfOk result (GivesType (known_tag S.schema S.table world.now known.now a.entry.now b.entry.now t.now u.now)) }
 {
     let is_known = known.contains(&Capability::new_borrowed_tag(a, b));
     get_tag_type(alloc, world, t, u, is_known)
@@ -192,7 +188,7 @@ fn tag_judgement<'a, S: TypingSchema>(
     t: &Type,
     u: &Type,
 ) -> Result<Option<Judged<'a>>, AllocError>
-    ensures { IfOk result (λ j. option_map judgement_seen j ≡ option_map (model_tested (tree_of a.entry.now) (tag_part (tree_of b.entry.now))) (model_has_tag_type (setting_of S.schema S.table world.now) (type_of t.now) (type_of u.now))) }
+    ensures { IfOk result (Judges (tag_tested S.schema S.table world.now a.entry.now b.entry.now t.now u.now)) }
 {
     let there = has_tag_type(world, t, u);
     tested(alloc, Capability::new_borrowed_tag(a, b), there)

@@ -9,14 +9,17 @@ ghost use Rattle.cedar_expr_model.specs.Tree.{get_attr, has_attr, like, is_type}
 ghost use Rattle.cedar_expr_trees.specs.Trees.{tree_of, kind_tree};
 ghost use Rattle.cedar_typechecker_environments.specs.Facts.{capability_of, facts_of};
 ghost use Rattle.cedar_typechecker_environments.specs.Settings.{setting_of};
-ghost use Rattle.cedar_typechecker_model.specs.Typed.{unary_typed, like_typed, is_typed, get_typed, has_typed, noted, one};
+ghost use Rattle.cedar_typechecker_environments.specs.Given.{GivesType};
+ghost use Rattle.cedar_typechecker_model.specs.Typed.{unary_typed, like_typed, is_typed, noted, one};
 ghost use Rattle.cedar_schema_types.specs.Kinds.{bool_type_of};
 ghost use Rattle.cedar_schema_types.specs.Types.{type_of};
-ghost use Rattle.cedar_typechecker_model.specs.Rules.{get_type as model_get_type, has_type as model_has_type};
+ghost use Rattle.cedar_typechecker_model.specs.Rules.{has_type as model_has_type};
 ghost use Rattle.cedar_typechecker_model.specs.Facts.{attribute_part};
 ghost use Rattle.cedar_typechecker_model.specs.Typing.{plain, tested as model_tested};
 ghost use Rattle.cedar_typechecker_answers.specs.Marked.{marks_of, kind_marks};
 ghost use Rattle.cedar_typechecker_answers.specs.Answers.{seen, judgement_seen};
+ghost use Rattle.cedar_typechecker_answers.specs.Nodes.{Judges};
+ghost use Rattle.cedar_typechecker_operators.specs.Operators.{attribute_by, known_attribute, has_by, attribute_tested};
 
 use cedar_expr_leaves::{Pattern, UnaryOp};
 use cedar_expr_names::{EntityType, Loc};
@@ -158,7 +161,7 @@ pub fn get_answer<'a, S: TypingSchema>(
     attr: &RcStr,
     arg: TypecheckAnswer<'a>,
 ) -> Result<TypecheckAnswer<'a>, AllocError>
-    ensures { IfOk result (λ a. seen a ≡ option_and_then (get_typed (setting_of S.schema S.table world.now) (facts_of known.now) (tree_of of.entry.now) (rc_str_bytes attr.now)) (seen arg.entry)) }
+    ensures { IfOk result (λ a. seen a ≡ attribute_by S.schema S.table world.now known.now of.entry.now attr.now arg.entry) }
 {
     let TypecheckAnswer::Success {
         expr_type: expr,
@@ -213,7 +216,7 @@ fn known_type<'a, S: TypingSchema>(
     ty: &Type,
     attr: &RcStr,
 ) -> Result<Option<Type>, AllocError>
-    ensures { IfOk result (λ t. option_map type_of t ≡ model_get_type (setting_of S.schema S.table world.now) (facts_of known.now) (tree_of of.entry.now) (type_of ty.now) (rc_str_bytes attr.now)) }
+    ensures { IfOk result (GivesType (known_attribute S.schema S.table world.now known.now of.entry.now ty.now attr.now)) }
 {
     let is_known = is_known(known, of, attr)?;
     get_type(alloc, world, ty, attr.as_str(), is_known)
@@ -237,7 +240,7 @@ pub fn has_answer<'a, S: TypingSchema>(
     attr: &RcStr,
     arg: TypecheckAnswer<'a>,
 ) -> Result<TypecheckAnswer<'a>, AllocError>
-    ensures { IfOk result (λ a. seen a ≡ option_and_then (has_typed (setting_of S.schema S.table world.now) (tree_of of.entry.now) (rc_str_bytes attr.now)) (seen arg.entry)) }
+    ensures { IfOk result (λ a. seen a ≡ has_by S.schema S.table world.now of.entry.now attr.now arg.entry) }
 {
     let TypecheckAnswer::Success {
         expr_type: expr,
@@ -278,7 +281,7 @@ fn attribute_judgement<'a, S: TypingSchema>(
     attr: &RcStr,
     ty: &Type,
 ) -> Result<Option<Judged<'a>>, AllocError>
-    ensures { IfOk result (λ j. option_map judgement_seen j ≡ option_map (model_tested (tree_of of.entry.now) (attribute_part (rc_str_bytes attr.now))) (model_has_type (setting_of S.schema S.table world.now) (type_of ty.now) (rc_str_bytes attr.now))) }
+    ensures { IfOk result (Judges (attribute_tested S.schema S.table world.now of.entry.now ty.now attr.now)) }
 {
     let there = attribute_there(world, ty, attr);
     let fact = Capability::new_attribute(of, attr.clone()?);
@@ -302,7 +305,7 @@ pub(crate) fn tested<'a>(
     fact: Capability<'a>,
     there: Option<BoolType>,
 ) -> Result<Option<Judged<'a>>, AllocError>
-    ensures { IfOk result (λ j. option_map judgement_seen j ≡ option_map (model_tested (capability_of fact.entry).0 (capability_of fact.entry).1) (option_map bool_type_of there)) }
+    ensures { IfOk result (Judges (option_map (model_tested (capability_of fact.entry).0 (capability_of fact.entry).1) (option_map bool_type_of there))) }
 {
     match there {
         Some(BoolType::AnyBool) => Ok(Some(Judged {

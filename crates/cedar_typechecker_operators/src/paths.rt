@@ -1,6 +1,6 @@
 //! Tests of paths of attributes.
 
-ghost use Rattle.std.specs.Prelude.{◌≡◌, ◌∷◌, [], map, option_map, option_and_then, IfOk};
+ghost use Rattle.std.specs.Prelude.{◌≡◌, [], IfOk};
 ghost use Rattle.std.specs.Rc.{rc_str_bytes};
 ghost use Rattle.cedar_expr_model.specs.Tree.{get_attr};
 ghost use Rattle.cedar_expr_trees.specs.Trees.{tree_of};
@@ -10,11 +10,11 @@ ghost use Rattle.cedar_schema_types.specs.Types.{type_of};
 ghost use Rattle.cedar_typechecker_environments.specs.Along.{AlongPath};
 ghost use Rattle.cedar_typechecker_environments.specs.Facts.{capability_of};
 ghost use Rattle.cedar_typechecker_model.specs.Facts.{no_facts, attribute_part};
-ghost use Rattle.cedar_typechecker_model.specs.Typing.{path_judged};
 ghost use Rattle.cedar_typechecker_environments.specs.Settings.{setting_of};
-ghost use Rattle.cedar_typechecker_model.specs.Typed.{path_typed};
 ghost use Rattle.cedar_typechecker_answers.specs.Answers.{seen, judgement_seen};
-ghost use Rattle.cedar_typechecker_operators.specs.Ways.{type_of_tests, tests_judged, judged_on, judged_past, IsOnPath, IsPast, IsNoted, PassesTo};
+ghost use Rattle.cedar_typechecker_operators.specs.Ways.{type_of_tests, tests_judged, judged_on, IsOnPath, IsPast, IsNoted, PassesOn, PassesPast};
+ghost use Rattle.cedar_typechecker_answers.specs.Nodes.{Judges};
+ghost use Rattle.cedar_typechecker_operators.specs.Operators.{path_by, path_judged_of};
 
 use crate::operators::attribute_there;
 use cedar_expr_leaves::NonEmpty;
@@ -39,7 +39,7 @@ pub fn path_answer<'a, S: TypingSchema>(
     path: &Rc<NonEmpty<RcStr>>,
     arg: TypecheckAnswer<'a>,
 ) -> Result<TypecheckAnswer<'a>, AllocError>
-    ensures { IfOk result (λ a. seen a ≡ option_and_then (path_typed (setting_of S.schema S.table world.now) (tree_of of.now.value) (rc_str_bytes path.now.value.head) (map rc_str_bytes path.now.value.tail.items)) (seen arg.entry)) }
+    ensures { IfOk result (λ a. seen a ≡ path_by S.schema S.table world.now of.now.value path.now.value arg.entry) }
 {
     let TypecheckAnswer::Success {
         expr_type: expr,
@@ -83,7 +83,7 @@ fn path_judgement<'a, S: TypingSchema>(
     further: &[RcStr],
     ty: &Type,
 ) -> Result<Option<Judged<'a>>, AllocError>
-    ensures { IfOk result (λ j. option_map judgement_seen j ≡ path_judged (setting_of S.schema S.table world.now) (rc_str_bytes attr.now) (map rc_str_bytes further.now) (tree_of of.now.value) (type_of ty.now)) }
+    ensures { IfOk result (Judges (path_judged_of S.schema S.table world.now of.now.value ty.now attr.now further.now)) }
 {
     let mut way = begun(alloc, of, ty)?;
     let mut name = attr;
@@ -116,7 +116,7 @@ fn past<'a, S: TypingSchema>(
     attr: &RcStr,
 ) -> Result<Passed<'a>, AllocError>
     requires { IsOnPath way }
-    ensures { IfOk result (PassesTo (setting_of S.schema S.table world.now) (λ b bs. judged_on (setting_of S.schema S.table world.now) way.entry (rc_str_bytes attr.now) (b ∷ bs))) }
+    ensures { IfOk result (PassesOn (setting_of S.schema S.table world.now) way.entry (rc_str_bytes attr.now)) }
 {
     match attribute_there(world, &way.ty, attr) {
         None => Ok(Passed::Done(None)),
@@ -134,7 +134,7 @@ fn gone_on<'a, S: TypingSchema>(
     attr: &RcStr,
 ) -> Result<Passed<'a>, AllocError>
     requires { IsPast way (rc_str_bytes attr.now) }
-    ensures { IfOk result (PassesTo (setting_of S.schema S.table world.now) (judged_past (setting_of S.schema S.table world.now) way.entry (rc_str_bytes attr.now))) }
+    ensures { IfOk result (PassesPast (setting_of S.schema S.table world.now) way.entry (rc_str_bytes attr.now)) }
 {
     let Some(ty) = step_type(alloc, world, &way.ty, attr.as_str())? else {
         return Ok(Passed::Done(None));
@@ -161,7 +161,7 @@ fn ended<'a, S: TypingSchema>(
     attr: &RcStr,
 ) -> Result<Option<Judged<'a>>, AllocError>
     requires { IsOnPath way }
-    ensures { IfOk result (λ j. option_map judgement_seen j ≡ judged_on (setting_of S.schema S.table world.now) way.entry (rc_str_bytes attr.now) []) }
+    ensures { IfOk result (Judges (judged_on (setting_of S.schema S.table world.now) way.entry (rc_str_bytes attr.now) [])) }
 {
     match attribute_there(world, &way.ty, attr) {
         None => Ok(None),

@@ -1,17 +1,17 @@
 //! Calls, sets and records, by the types of their parts.
 
 ghost use Rattle.std.specs.Prelude.{◌≡◌, true, map, option_map, option_and_then, IfOk};
-ghost use Rattle.cedar_expr_model.specs.Builder.{trees};
 ghost use Rattle.cedar_expr_model.specs.Lists.{all_given};
-ghost use Rattle.cedar_expr_names.specs.Views.{plain_name_of};
-ghost use Rattle.cedar_expr_trees.specs.Trees.{tree_of};
+ghost use Rattle.cedar_expr_model.specs.Records.{names_rise};
+ghost use Rattle.cedar_expr_trees.specs.Trees.{named};
 ghost use Rattle.cedar_schema_types.specs.AttributeLists.{required_pairs};
 ghost use Rattle.cedar_schema_types.specs.Types.{type_of};
-ghost use Rattle.cedar_typechecker_model.specs.Rules.{call_type as model_call_type, set_literal_type as model_set_type};
+ghost use Rattle.cedar_typechecker_model.specs.Rules.{set_literal_type as model_set_type};
 ghost use Rattle.cedar_typechecker_environments.specs.Settings.{setting_of};
-ghost use Rattle.cedar_typechecker_model.specs.Typed.{call_typed, set_typed, record_typed};
+ghost use Rattle.cedar_typechecker_model.specs.Typed.{set_typed, record_typed};
 ghost use Rattle.cedar_typechecker_answers.specs.Answers.{seen};
-ghost use Rattle.cedar_typechecker_operators.specs.Rows.{type_at, row_found, required_at, fields_found, rising_found};
+ghost use Rattle.cedar_typechecker_operators.specs.Rows.{type_at, row_found, required_at, fields_found};
+ghost use Rattle.cedar_typechecker_operators.specs.Operators.{call_by, call_type_by};
 
 use cedar_expr_names::{Loc, Name};
 use cedar_expr_trees::Expr;
@@ -22,6 +22,7 @@ use cedar_typechecker_answers::{
 use cedar_typechecker_environments::{TypingSchema, World};
 use cedar_typechecker_rules::{call_type, set_literal_type};
 use std::alloc::{AllocError, Global};
+use std::collections::BTreeMap;
 use std::rc::RcStr;
 
 /// The answer of a call by its arguments, typed, if each has a type.
@@ -34,7 +35,7 @@ pub fn call_answer<'a, S: TypingSchema>(
     args: &[Expr],
     row: Option<Vec<Expr<Option<Type>>>>,
 ) -> Result<TypecheckAnswer<'a>, AllocError>
-    ensures { IfOk result (λ a. seen a ≡ option_and_then (call_typed (setting_of S.schema S.table world.now) (plain_name_of name.now) (trees (map tree_of args.now))) (row_found row)) }
+    ensures { IfOk result (λ a. seen a ≡ call_by S.schema S.table world.now name.now args.now row) }
 {
     let Some(row) = row else {
         return Ok(no_type());
@@ -55,7 +56,7 @@ fn call_type_of<S: TypingSchema>(
     args: &[Expr],
     row: &[Expr<Option<Type>>],
 ) -> Result<Option<Option<Type>>, AllocError>
-    ensures { IfOk result (λ t. option_map (option_map type_of) t ≡ option_map (model_call_type (setting_of S.schema S.table world.now) (plain_name_of name.now) (trees (map tree_of args.now))) (all_given type_at row.now)) }
+    ensures { IfOk result (λ t. option_map (option_map type_of) t ≡ call_type_by S.schema S.table world.now name.now args.now row.now) }
 {
     match row_types(alloc, row)? {
         Some(types) => Ok(Some(call_type(alloc, world, name, args, types.as_slice())?)),
@@ -119,20 +120,19 @@ fn row_types<'r>(
     Ok(Some(types))
 }
 
-/// The answer of a record by its fields, typed, if each has a type. The names of the fields rise.
+/// The answer of a record by its fields, typed, if each has a type.
 pub fn record_answer<'a>(
     alloc: Global,
     faults: &mut Faults,
     place: Option<Loc>,
-    row: Option<Vec<(RcStr, Expr<Option<Type>>)>>,
+    row: Option<BTreeMap<RcStr, Expr<Option<Type>>>>,
 ) -> Result<TypecheckAnswer<'a>, AllocError>
-    requires { rising_found row ≡ true }
     ensures { IfOk result (λ a. seen a ≡ option_and_then record_typed (fields_found row)) }
 {
     let Some(row) = row else {
         return Ok(no_type());
     };
-    let Some(types) = field_types(alloc, row.as_slice())? else {
+    let Some(types) = field_types(alloc, &row)? else {
         return Ok(no_type());
     };
     let tag = OpenTag::ClosedAttributes;
@@ -145,9 +145,10 @@ pub fn record_answer<'a>(
 // The types of fields, under their names, if each has one.
 fn field_types(
     alloc: Global,
-    row: &[(RcStr, Expr<Option<Type>>)],
+    row: &BTreeMap<RcStr, Expr<Option<Type>>>,
 ) -> Result<Option<Vec<(RcStr, Type)>>, AllocError>
-    ensures { IfOk result (λ ts. option_map (λ v. required_pairs v.items) ts ≡ all_given required_at row.now) }
+    ensures types { IfOk result (λ ts. option_map (λ v. required_pairs v.items) ts ≡ all_given required_at row.now.entries) }
+    ensures rising { IfOk result (λ ts. names_rise (named row.now.entries) ≡ true) }
 {
     let mut types = Vec::with_capacity(alloc, row.len())?;
     for (name, e) in row {

@@ -1,18 +1,18 @@
 //! Typing: a walk along an expression.
 
-ghost use Rattle.std.specs.Prelude.{◌≡◌, true, map, IfOk};
+ghost use Rattle.std.specs.Prelude.{◌≡◌, map, IfOk};
 ghost use Rattle.std.specs.Rc.{rc_str_bytes};
 ghost use Rattle.cedar_expr_leaves.specs.Operators.{unary_op_of, binary_op_of};
 ghost use Rattle.cedar_expr_leaves.specs.Patterns.{pattern_of};
 ghost use Rattle.cedar_expr_model.specs.Builder.{trees, tree_fields};
-ghost use Rattle.cedar_expr_model.specs.Tree.{choice, both, either, unary, binary, call, get_attr, has_attr, has_path, like, is_type, set_literal, record_literal};
+ghost use Rattle.cedar_expr_model.specs.Tree.{choice, both, either, unary, binary, call, get_attr, has_attr, like, is_type, set_literal, record_literal};
 ghost use Rattle.cedar_expr_names.specs.Views.{plain_name_of, type_name_of};
 ghost use Rattle.cedar_expr_trees.specs.Trees.{tree_of, named, field_trees};
 ghost use Rattle.cedar_typechecker_environments.specs.Facts.{facts_of};
 ghost use Rattle.cedar_typechecker_environments.specs.Settings.{setting_of};
-ghost use Rattle.cedar_typechecker_model.specs.Typed.{typed, typed_row, typed_fields};
-ghost use Rattle.cedar_typechecker_answers.specs.Answers.{seen};
-ghost use Rattle.cedar_typechecker_operators.specs.Rows.{row_found, fields_found, rising_found};
+ghost use Rattle.cedar_typechecker_model.specs.Typed.{typed, typed_fields};
+ghost use Rattle.cedar_typechecker_operators.specs.Rows.{fields_found};
+ghost use Rattle.cedar_typechecker_operators.specs.Operators.{IsAnswer, IsRow, path_test};
 
 use crate::{
     binary_answer, call_answer, chosen_answer, get_answer, has_answer, is_answer, like_answer,
@@ -22,6 +22,7 @@ use crate::{
 use cedar_expr_leaves::{BinaryOp, NonEmpty, Pattern, UnaryOp};
 use cedar_expr_names::{EntityType, Loc, Name};
 use cedar_expr_trees::{Expr, ExprKind};
+use cedar_expr_values::fields::field_map;
 use cedar_schema_types::Type;
 use cedar_typechecker_answers::{
     ChoiceStep, Faults, Step, TypecheckAnswer, TypingErrorKind, and_answer, and_step, choice_step,
@@ -33,7 +34,7 @@ use std::collections::BTreeMap;
 use std::rc::{Rc, RcStr};
 
 /// The expression typed where these facts are known: with its type and those of its parts that typing reaches, and what holds where
-/// it is true. Where it has no type, what is wrong with it is put behind the faults that are handed in.
+/// it is true. Where it has no type, what is wrong with it is appended to the faults that are handed in.
 #[cycle(typing)]
 pub fn typecheck<'a, S: TypingSchema>(
     alloc: Global,
@@ -42,7 +43,7 @@ pub fn typecheck<'a, S: TypingSchema>(
     faults: &mut Faults,
     expr: &'a Expr,
 ) -> Result<TypecheckAnswer<'a>, AllocError>
-    ensures { IfOk result (λ a. seen a ≡ typed (setting_of S.schema S.table world.now) (facts_of known.now) (tree_of expr.entry.now)) }
+    ensures { IfOk result (IsAnswer S.schema S.table world.now known.now (tree_of expr.entry.now)) }
 {
     let place = expr.source_loc();
     match expr.expr_kind() {
@@ -106,7 +107,7 @@ fn typecheck_if<'a, S: TypingSchema>(
     first: &'a Expr,
     second: &'a Expr,
 ) -> Result<TypecheckAnswer<'a>, AllocError>
-    ensures { IfOk result (λ a. seen a ≡ typed (setting_of S.schema S.table world.now) (facts_of known.now) (choice (tree_of test.entry.now) (tree_of first.entry.now) (tree_of second.entry.now))) }
+    ensures { IfOk result (IsAnswer S.schema S.table world.now known.now (choice (tree_of test.entry.now) (tree_of first.entry.now) (tree_of second.entry.now))) }
 {
     let tested = typecheck(alloc, world, known, faults, test)?;
     match choice_step(known, faults, tested)? {
@@ -138,7 +139,7 @@ fn typecheck_and<'a, S: TypingSchema>(
     left: &'a Expr,
     right: &'a Expr,
 ) -> Result<TypecheckAnswer<'a>, AllocError>
-    ensures { IfOk result (λ a. seen a ≡ typed (setting_of S.schema S.table world.now) (facts_of known.now) (both (tree_of left.entry.now) (tree_of right.entry.now))) }
+    ensures { IfOk result (IsAnswer S.schema S.table world.now known.now (both (tree_of left.entry.now) (tree_of right.entry.now))) }
 {
     let first = typecheck(alloc, world, known, faults, left)?;
     match and_step(alloc, known, faults, place, first, right)? {
@@ -161,7 +162,7 @@ fn typecheck_or<'a, S: TypingSchema>(
     left: &'a Expr,
     right: &'a Expr,
 ) -> Result<TypecheckAnswer<'a>, AllocError>
-    ensures { IfOk result (λ a. seen a ≡ typed (setting_of S.schema S.table world.now) (facts_of known.now) (either (tree_of left.entry.now) (tree_of right.entry.now))) }
+    ensures { IfOk result (IsAnswer S.schema S.table world.now known.now (either (tree_of left.entry.now) (tree_of right.entry.now))) }
 {
     let first = typecheck(alloc, world, known, faults, left)?;
     match or_step(alloc, faults, place, first, right)? {
@@ -184,7 +185,7 @@ fn typecheck_unary<'a, S: TypingSchema>(
     op: UnaryOp,
     arg: &'a Expr,
 ) -> Result<TypecheckAnswer<'a>, AllocError>
-    ensures { IfOk result (λ a. seen a ≡ typed (setting_of S.schema S.table world.now) (facts_of known.now) (unary (unary_op_of op) (tree_of arg.entry.now))) }
+    ensures { IfOk result (IsAnswer S.schema S.table world.now known.now (unary (unary_op_of op) (tree_of arg.entry.now))) }
 {
     let operand = typecheck(alloc, world, known, faults, arg)?;
     unary_answer(alloc, faults, place, op, operand)
@@ -202,7 +203,7 @@ fn typecheck_binary<'a, S: TypingSchema>(
     arg1: &'a Expr,
     arg2: &'a Expr,
 ) -> Result<TypecheckAnswer<'a>, AllocError>
-    ensures { IfOk result (λ a. seen a ≡ typed (setting_of S.schema S.table world.now) (facts_of known.now) (binary (binary_op_of op) (tree_of arg1.entry.now) (tree_of arg2.entry.now))) }
+    ensures { IfOk result (IsAnswer S.schema S.table world.now known.now (binary (binary_op_of op) (tree_of arg1.entry.now) (tree_of arg2.entry.now))) }
 {
     let first = typecheck(alloc, world, known, faults, arg1)?;
     let second = typecheck(alloc, world, known, faults, arg2)?;
@@ -222,7 +223,7 @@ fn typecheck_call<'a, S: TypingSchema>(
     name: &Name,
     args: &'a [Expr],
 ) -> Result<TypecheckAnswer<'a>, AllocError>
-    ensures { IfOk result (λ a. seen a ≡ typed (setting_of S.schema S.table world.now) (facts_of known.now) (call (plain_name_of name.now) (trees (map tree_of args.entry.now)))) }
+    ensures { IfOk result (IsAnswer S.schema S.table world.now known.now (call (plain_name_of name.now) (trees (map tree_of args.entry.now)))) }
 {
     let row = typecheck_all(alloc, world, known, faults, args)?;
     call_answer(alloc, world, faults, place, name, args, row)
@@ -239,7 +240,7 @@ fn typecheck_get_attr<'a, S: TypingSchema>(
     expr: &'a Expr,
     attr: &RcStr,
 ) -> Result<TypecheckAnswer<'a>, AllocError>
-    ensures { IfOk result (λ a. seen a ≡ typed (setting_of S.schema S.table world.now) (facts_of known.now) (get_attr (tree_of expr.entry.now) (rc_str_bytes attr.now))) }
+    ensures { IfOk result (IsAnswer S.schema S.table world.now known.now (get_attr (tree_of expr.entry.now) (rc_str_bytes attr.now))) }
 {
     let operand = typecheck(alloc, world, known, faults, expr)?;
     get_answer(alloc, world, known, faults, place, expr, attr, operand)
@@ -256,7 +257,7 @@ fn typecheck_has_attr<'a, S: TypingSchema>(
     expr: &'a Expr,
     attr: &RcStr,
 ) -> Result<TypecheckAnswer<'a>, AllocError>
-    ensures { IfOk result (λ a. seen a ≡ typed (setting_of S.schema S.table world.now) (facts_of known.now) (has_attr (tree_of expr.entry.now) (rc_str_bytes attr.now))) }
+    ensures { IfOk result (IsAnswer S.schema S.table world.now known.now (has_attr (tree_of expr.entry.now) (rc_str_bytes attr.now))) }
 {
     let operand = typecheck(alloc, world, known, faults, expr)?;
     has_answer(alloc, world, faults, place, expr, attr, operand)
@@ -273,7 +274,7 @@ fn typecheck_has_path<'a, S: TypingSchema>(
     expr: &'a Rc<Expr>,
     attrs: &Rc<NonEmpty<RcStr>>,
 ) -> Result<TypecheckAnswer<'a>, AllocError>
-    ensures { IfOk result (λ a. seen a ≡ typed (setting_of S.schema S.table world.now) (facts_of known.now) (has_path (tree_of expr.entry.now.value) (rc_str_bytes attrs.now.value.head) (map rc_str_bytes attrs.now.value.tail.items))) }
+    ensures { IfOk result (IsAnswer S.schema S.table world.now known.now (path_test expr.entry.now.value attrs.now.value)) }
 {
     let operand = typecheck(alloc, world, known, faults, expr)?;
     path_answer(alloc, world, faults, place, expr, attrs, operand)
@@ -290,7 +291,7 @@ fn typecheck_like<'a, S: TypingSchema>(
     expr: &'a Expr,
     pattern: &Pattern,
 ) -> Result<TypecheckAnswer<'a>, AllocError>
-    ensures { IfOk result (λ a. seen a ≡ typed (setting_of S.schema S.table world.now) (facts_of known.now) (like (tree_of expr.entry.now) (pattern_of pattern.now))) }
+    ensures { IfOk result (IsAnswer S.schema S.table world.now known.now (like (tree_of expr.entry.now) (pattern_of pattern.now))) }
 {
     let operand = typecheck(alloc, world, known, faults, expr)?;
     like_answer(alloc, faults, place, pattern, operand)
@@ -307,7 +308,7 @@ fn typecheck_is<'a, S: TypingSchema>(
     expr: &'a Expr,
     kind: &EntityType,
 ) -> Result<TypecheckAnswer<'a>, AllocError>
-    ensures { IfOk result (λ a. seen a ≡ typed (setting_of S.schema S.table world.now) (facts_of known.now) (is_type (tree_of expr.entry.now) (type_name_of kind.now))) }
+    ensures { IfOk result (IsAnswer S.schema S.table world.now known.now (is_type (tree_of expr.entry.now) (type_name_of kind.now))) }
 {
     let operand = typecheck(alloc, world, known, faults, expr)?;
     is_answer(alloc, faults, place, kind, operand)
@@ -323,7 +324,7 @@ fn typecheck_set<'a, S: TypingSchema>(
     place: Option<Loc>,
     members: &'a [Expr],
 ) -> Result<TypecheckAnswer<'a>, AllocError>
-    ensures { IfOk result (λ a. seen a ≡ typed (setting_of S.schema S.table world.now) (facts_of known.now) (set_literal (trees (map tree_of members.entry.now)))) }
+    ensures { IfOk result (IsAnswer S.schema S.table world.now known.now (set_literal (trees (map tree_of members.entry.now)))) }
 {
     let row = typecheck_all(alloc, world, known, faults, members)?;
     set_answer(alloc, world, faults, place, row)
@@ -339,7 +340,7 @@ fn typecheck_record<'a, S: TypingSchema>(
     place: Option<Loc>,
     fields: &'a BTreeMap<RcStr, Expr>,
 ) -> Result<TypecheckAnswer<'a>, AllocError>
-    ensures { IfOk result (λ a. seen a ≡ typed (setting_of S.schema S.table world.now) (facts_of known.now) (record_literal (tree_fields (named (field_trees fields.entry.now.entries))))) }
+    ensures { IfOk result (IsAnswer S.schema S.table world.now known.now (record_literal (tree_fields (named (field_trees fields.entry.now.entries))))) }
 {
     let row = typecheck_fields(alloc, world, known, faults, fields)?;
     record_answer(alloc, faults, place, row)
@@ -354,7 +355,7 @@ fn typecheck_all<'a, S: TypingSchema>(
     faults: &mut Faults,
     exprs: &'a [Expr],
 ) -> Result<Option<Vec<Expr<Option<Type>>>>, AllocError>
-    ensures { IfOk result (λ r. row_found r ≡ typed_row (setting_of S.schema S.table world.now) (facts_of known.now) (trees (map tree_of exprs.entry.now))) }
+    ensures { IfOk result (IsRow S.schema S.table world.now known.now exprs.entry.now) }
 {
     let mut row = Vec::with_capacity(alloc, exprs.len())?;
     for e in exprs {
@@ -374,9 +375,8 @@ fn typecheck_fields<'a, S: TypingSchema>(
     known: &CapabilitySet<'a>,
     faults: &mut Faults,
     fields: &'a BTreeMap<RcStr, Expr>,
-) -> Result<Option<Vec<(RcStr, Expr<Option<Type>>)>>, AllocError>
-    ensures rising { IfOk result (λ r. rising_found r ≡ true) }
-    ensures typed { IfOk result (λ r. fields_found r ≡ typed_fields (setting_of S.schema S.table world.now) (facts_of known.now) (tree_fields (named (field_trees fields.entry.now.entries)))) }
+) -> Result<Option<BTreeMap<RcStr, Expr<Option<Type>>>>, AllocError>
+    ensures { IfOk result (λ r. fields_found r ≡ typed_fields (setting_of S.schema S.table world.now) (facts_of known.now) (tree_fields (named (field_trees fields.entry.now.entries)))) }
 {
     let mut row = Vec::with_capacity(alloc, fields.len())?;
     for (name, e) in fields {
@@ -385,5 +385,5 @@ fn typecheck_fields<'a, S: TypingSchema>(
             TypecheckAnswer::Fail { .. } => return Ok(None),
         }
     }
-    Ok(Some(row))
+    Ok(Some(field_map(alloc, row)?))
 }

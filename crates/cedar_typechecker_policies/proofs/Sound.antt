@@ -5,7 +5,7 @@ use Rattle.cedar_expr_model.specs.Lists.{is_nil}
 use Rattle.cedar_expr_model.specs.Table.{Table}
 use Rattle.cedar_expr_model.specs.Tree.{Tree}
 use Rattle.cedar_expr_model.specs.Value.{V}
-use Rattle.cedar_gate_model.proofs.Gate.Reach.{conditions_are_in_reach}
+use Rattle.cedar_typechecker_model.proofs.InReach.{conditions_are_in_reach}
 use Rattle.cedar_schema_model.specs.Schema.{Schema}
 use Rattle.cedar_schema_model.specs.Types.{BoolType, any_bool, bool_type, Mode, strict}
 use Rattle.cedar_store_model.specs.Outcome.{Res, val, err}

@@ -6,6 +6,7 @@ use Rattle.std.specs.Str.{bytes_eq}
 use Rattle.cedar_expr_model.specs.Lists.{is_nil}
 use Rattle.cedar_expr_model.specs.Name.{Text}
 use Rattle.cedar_expr_model.specs.Tree.{Tree}
+use Rattle.cedar_store_model.specs.Policy.{Policy, condition}
 use Rattle.cedar_store_parts.specs.Parts.{id_text}
 use Rattle.cedar_store_parts.specs.declared.diagnostics.ValidationError.{ValidationError}
 use Rattle.cedar_typechecker_answers.specs.Kinds.{is_typing_kind}
@@ -13,7 +14,7 @@ use Rattle.cedar_typechecker_policies.specs.Conditions.{IsTypedAs, IsVerdictOf}
 use Rattle.cedar_typechecker_model.specs.Facts.{no_facts}
 use Rattle.cedar_typechecker_model.specs.Rules.{Setting}
 use Rattle.cedar_typechecker_model.specs.Typing.{type_of}
-use Rattle.cedar_typechecker_model.specs.Verdicts.{Verdict, success, irrelevant, fail, verdict_of}
+use Rattle.cedar_typechecker_model.specs.Verdicts.{Verdict, success, irrelevant, fail, verdict_of, HasVerdict}
 use Rattle.cedar_typechecker_policies.specs.declared.check.PolicyCheck.{PolicyCheck}
 use Rattle.cedar_typechecker_policies.specs.declared.check.PolicyCheck.TheVariants.{Success, Irrelevant, Fail}
 use Rattle.cedar_typechecker_policies.specs.declared.checked.Checked.{Checked}
@@ -35,6 +36,10 @@ is_passing v = true
 abbrev pub is_irrelevant : Verdict → Bool
 is_irrelevant irrelevant = true
 is_irrelevant v = false
+
+-- errors of typing, each of the policy of this id
+abbrev pub AreErrorsOf : Text → List ValidationError → Type 0
+AreErrorsOf id es = list_all (is_error_of id) es ≡ true
 
 -- A condition, typed: with the types of its parts if it has one, the verdict of its type, and something wrong, of this policy, exactly where
 -- it has no type of truth values.
@@ -62,3 +67,11 @@ pub record CheckSays (s : Setting) (t : Tree) (id : Text) (c : PolicyCheck) : Ty
   pub typed : HoldsTyped s t c
   pub policy : list_all (is_error_of id) (errors_in c) ≡ true
   pub errors : is_nil (errors_in c) ≡ is_passing (verdict_seen c)
+
+-- the check of a policy
+abbrev pub IsCheckOf : Setting → Policy → PolicyCheck → Type 0
+IsCheckOf s p = CheckSays s (condition p) p.id
+
+-- the check has the verdict on the condition of the policy
+abbrev pub IsVerdictOn : Setting → Policy → PolicyCheck → Type 0
+IsVerdictOn s p c = HasVerdict s (condition p) (verdict_seen c)

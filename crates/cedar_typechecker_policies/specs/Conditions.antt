@@ -1,6 +1,6 @@
 -- A typed condition, and what the verdict of its type is.
 -- Rule: typing; the acceptance rules (docs/RULES.md).
-use Rattle.std.specs.Prelude.{◌≡◌, Option, Some}
+use Rattle.std.specs.Prelude.{◌≡◌, Option, Some, None, MatchOption}
 use Rattle.cedar_expr_model.specs.Tree.{Tree}
 use Rattle.cedar_expr_trees.specs.Trees.{tree_of}
 use Rattle.cedar_expr_trees.specs.declared.expr.Expr.{Expr}
@@ -20,6 +20,10 @@ pub record IsTypedAs (s : Setting) (t : Tree) (e : Expr (Option CodeType)) : Typ
   pub facts : Facts
   pub held : e.«data» ≡ Some type
   pub is : typed s no_facts t ≡ Some (record { type = type_of type; facts = facts; at = tree_of e; below = kind_marks e.expr_kind })
+
+-- the expression with the types of its parts, if it has one itself
+abbrev pub IsTypedIfAny : Setting → Tree → Option (Expr (Option CodeType)) → Type 0
+IsTypedIfAny s t o = MatchOption o (typed s no_facts t ≡ None) (IsTypedAs s t)
 
 -- The verdict says of the type what the tests say.
 pub record IsVerdictOf (t : Option Ty) (v : Verdict) : Type 0 where

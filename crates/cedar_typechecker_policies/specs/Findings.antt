@@ -1,6 +1,6 @@
 -- What the check of a policy over its environments says.
 -- Rule: the acceptance rules; impossible policies; levels (docs/RULES.md).
-use Rattle.std.specs.Prelude.{◌≡◌, ◌&&◌, ◌||◌, not, ℕ, true, List, [], ◌∷◌, map, Bool, Option, if◌then◌else◌}
+use Rattle.std.specs.Prelude.{◌≡◌, ◌&&◌, ◌||◌, not, ℕ, true, List, [], ◌∷◌, map, Bool, Option, if◌then◌else◌, ◌++◌}
 use Rattle.std.specs.List.{list_all, flat_map}
 use Rattle.cedar_expr_model.specs.Lists.{is_nil}
 use Rattle.cedar_expr_model.specs.Name.{Text}
@@ -15,7 +15,7 @@ use Rattle.cedar_store_parts.specs.Parts.{id_text, bindings_of}
 use Rattle.cedar_store_parts.specs.Views.{WarningSeen, impossible}
 use Rattle.cedar_store_policies.specs.Templates.{template_of}
 use Rattle.cedar_typechecker_model.specs.Typing.{type_of}
-use Rattle.cedar_typechecker_model.specs.Verdicts.{in_mode, is_bool, is_false, fits, fits_slot}
+use Rattle.cedar_typechecker_model.specs.Verdicts.{in_mode, is_bool, is_false, fits, fits_slot, policy_environments}
 use Rattle.cedar_typechecker_policies.specs.Checks.{is_error_of}
 use Rattle.cedar_typechecker_policies.specs.Violations.{reached_in, violation_told, violated_by, level_of}
 use Rattle.cedar_typechecker_policies.specs.declared.findings.PolicyFindings.{PolicyFindings}
@@ -46,3 +46,20 @@ pub record ChecksOver (n : Option ℕ) (m : Mode) (s : Schema) (x : Table) (p : 
 -- the warning of a policy that is never satisfied
 abbrev pub warned_as : Text → Option Loc → Bool → List WarningSeen
 warned_as id l b = if b then (impossible id l ∷ []) else []
+
+-- over all the environments of the policy
+abbrev pub ChecksOverAll : Option ℕ → Mode → Schema → Table → Policy → PolicyFindings → Type 0
+ChecksOverAll n m s x p = ChecksOver n m s x p (policy_environments s p)
+
+module _ {S : Type 0} (schema : S → Schema) (table : S → Table) where
+  -- over these environments of the policy that is checked
+  abbrev pub SubjectChecks : S → Mode → Subject → List Environment → PolicyFindings → Type 0
+  SubjectChecks s m q = ChecksOver (level_in q) m (schema s) (table s) (policy_in q)
+
+  -- over all the environments of the policy that is checked
+  abbrev pub SubjectFinds : S → Mode → Subject → PolicyFindings → Type 0
+  SubjectFinds s m q = ChecksOverAll (level_in q) m (schema s) (table s) (policy_in q)
+
+  -- What is found over some environments is found over these and one more.
+  abbrev pub ChecksOneMore : S → Mode → Subject → Environment → PolicyFindings → PolicyFindings → Type 0
+  ChecksOneMore s m q e old new = (es : List Environment) → SubjectChecks s m q es old → SubjectChecks s m q (es ++ e ∷ []) new

@@ -18,7 +18,7 @@ use Rattle.cedar_typechecker_model.specs.Verdicts.{passes_in, is_warned, policy_
 use Rattle.cedar_typechecker_policies.specs.Checks.{is_error_of}
 use Rattle.cedar_typechecker_policies.specs.Findings.{warned_as}
 use Rattle.cedar_typechecker_policies.specs.Violations.{reached_by}
-use Rattle.cedar_typechecker_scopes.specs.Applying.{Asked, application_warnings}
+use Rattle.cedar_typechecker_scopes.specs.Applying.{asked_in, application_warnings}
 use Rattle.cedar_typechecker_scopes.specs.Faults.{Blame, known_types, known_actions, known_members, wrong_within, blamed, blame_of}
 
 -- The set gains errors of the policy, and none exactly where it passes.
@@ -38,10 +38,6 @@ scope_blames s p = blamed p.id (wrong_within s known_types p) ++ (blamed p.id (w
 abbrev pub FindsErrors : ℕ → Mode → Schema → Table → Policy → List ValidationError → Type 0
 FindsErrors n m s x p es = (ts : List ValidationError) × (list_all (is_error_of p.id) ts ≡ true) × (is_nil ts ≡ passes_in m s x p)
     × (map blame_of es ≡ scope_blames s p ++ (map blame_of ts ++ map (reached_by p.id) (policy_violations_in m n s x p)))
-
--- what the scope of a policy asks for
-abbrev pub asked_in : Policy → Asked
-asked_in p = record { principal = p.principal; action = p.action; resource = p.resource }
 
 -- And its warnings: that it is never satisfied, and that its scope fits no action.
 abbrev pub FindsWarnings : Mode → Schema → Table → Policy → Option Loc → List ValidationWarning → Type 0

@@ -7,12 +7,12 @@ use Rattle.cedar_schema_joins.specs.Modes.{mode_of}
 use Rattle.cedar_schema_model.specs.Environment.{Environment}
 use Rattle.cedar_schema_model.specs.Schema.{Schema}
 use Rattle.cedar_schema_model.specs.Types.{Mode}
-use Rattle.cedar_store_model.specs.Policy.{Policy, condition}
+use Rattle.cedar_store_model.specs.Policy.{Policy}
 use Rattle.cedar_store_policies.specs.Templates.{template_of}
 use Rattle.cedar_typechecker_environments.specs.Settings.{environment_of}
 use Rattle.cedar_typechecker_environments.specs.declared.request_env.RequestEnv.{RequestEnv}
 use Rattle.cedar_typechecker_model.specs.Verdicts.{in_mode, policy_environments}
-use Rattle.cedar_typechecker_policies.specs.Checks.{CheckSays}
+use Rattle.cedar_typechecker_policies.specs.Checks.{IsCheckOf}
 use Rattle.cedar_typechecker_policies.specs.declared.check.PolicyCheck.{PolicyCheck}
 use Rattle.cedar_typechecker_policies.specs.declared.checks.RequestEnvChecks.{RequestEnvChecks}
 
@@ -47,9 +47,13 @@ module _ {S : Type 0} (schema : S → Schema) (table : S → Table) where
   abbrev pub Item : Type 0
   Item = Result (RequestEnv × PolicyCheck) AllocError
 
+  -- the check in an environment
+  abbrev pub IsCheckIn : RequestEnvChecks S → Environment → PolicyCheck → Type 0
+  IsCheckIn i e = IsCheckOf (in_mode (mode_checked i) (schema_checked schema i) (table_checked table i) e) (policy_checked i)
+
   abbrev pub GivesCheck : RequestEnvChecks S → RequestEnvChecks S → Item → Type 0
   GivesCheck i j r = MatchResult r
-      (λ p. (environments_left i ≡ environments_left j ++ environment_of p.0 ∷ []) × CheckSays (in_mode (mode_of i.mode) (schema i.schema.now) (table i.schema.now) (environment_of p.0)) (condition (template_of i.template.now)) (template_of i.template.now).id p.1)
+      (λ p. (environments_left i ≡ environments_left j ++ environment_of p.0 ∷ []) × IsCheckIn i (environment_of p.0) p.1)
       (λ e. environments_left j ≡ [])
 
   abbrev pub NextCheck : RequestEnvChecks S → Option Item → RequestEnvChecks S → Type 0

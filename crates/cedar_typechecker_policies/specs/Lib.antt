@@ -5,3 +5,4 @@ pub mod Iterated
 pub mod Sound
 pub mod Violations
 pub mod Conditions
+pub mod Validated

@@ -1,11 +1,11 @@
 -- What a policy that passes in the strict mode promises of its meaning, under a schema and a table that answer typing alike.
 -- Rule: typing; levels; the slice (docs/RULES.md).
-use Rattle.std.specs.Prelude.{ℕ}
+use Rattle.std.specs.Prelude.{ℕ, ◌≡◌, Bool, true}
 use Rattle.cedar_expr_model.specs.Table.{Table}
 use Rattle.cedar_expr_model.specs.Tree.{Tree}
 use Rattle.cedar_expr_model.specs.Uid.{Uid}
 use Rattle.cedar_expr_model.specs.Value.{V}
-use Rattle.cedar_gate_model.specs.SliceSoundness.{IsInReach, SliceConforms}
+use Rattle.cedar_typechecker_model.specs.Reach.{IsInReach, SliceConforms}
 use Rattle.cedar_schema_model.specs.Environment.{Environment}
 use Rattle.cedar_schema_model.specs.Schema.{Schema}
 use Rattle.cedar_schema_model.specs.Types.{any_bool, bool_type}
@@ -18,8 +18,11 @@ use Rattle.cedar_store_model.specs.Policy.{Policy, SlotBindings, condition}
 use Rattle.cedar_store_model.specs.World.{World}
 use Rattle.cedar_typechecker_model.specs.OfLaws.Simple.{IsOrderly}
 use Rattle.cedar_typechecker_model.specs.PolicySoundness.{IsConforming, IsBound, LookupsConform}
+use Rattle.cedar_typechecker_model.specs.Rules.{Setting}
 use Rattle.cedar_typechecker_model.specs.Soundness.{IsGood, ConformsAt, Suits, SlotsAreBound}
 use Rattle.cedar_typechecker_model.specs.Alike.{AnswersAlike, HasSameSignatures}
+use Rattle.cedar_typechecker_policies.specs.Checks.{verdict_seen, is_passing}
+use Rattle.cedar_typechecker_policies.specs.declared.check.PolicyCheck.{PolicyCheck}
 
 -- of each schema and table that answer typing alike
 abbrev pub ForAlike : Schema → Table → (Schema → Table → Type 0) → Type 0
@@ -31,6 +34,10 @@ abbrev pub MeansTruth : Environment → Tree → Schema → Table → Type 0
 MeansTruth e t d y = (w : World) → Suits d y e w → SlotsAreBound w t → ((u : Uid) → Looks w t u → ConformsAt d w u)
     → ((r : Res V) → Means w t r → IsGood (bool_type any_bool) r) × (IsWhole w → (r : Res V) × Means w t r)
 
+-- if the check of the policy passes
+abbrev pub MeansTruthIfPassing : Setting → Policy → PolicyCheck → Type 0
+MeansTruthIfPassing s p c = is_passing (verdict_seen c) ≡ true → ForAlike s.schema s.table (MeansTruth s.env (condition p))
+
 -- the policy with these bindings
 abbrev pub with_bindings : Policy → SlotBindings → Policy
 with_bindings p b = record p { bindings = b }
@@ -39,6 +46,10 @@ with_bindings p b = record p { bindings = b }
 abbrev pub PolicyMeansTruth : Policy → Schema → Table → Type 0
 PolicyMeansTruth p d y = (b : SlotBindings) (w : World) → IsOrderly d → IsConforming d y w → IsWhole w → IsBound (with_bindings p b) → LookupsConform d w (with_bindings p b)
     → (r : Res V) × PolicyMeans w (with_bindings p b) r × IsGood (bool_type any_bool) r
+
+-- if it passes
+abbrev pub PolicyMeansTruthIf : Schema → Table → Policy → Bool → Type 0
+PolicyMeansTruthIf s x p b = b ≡ true → ForAlike s x (PolicyMeansTruth p)
 
 -- Every uid that it looks up lies in the slice at the level, or is a declared action.
 abbrev pub LooksInReach : ℕ → Policy → Schema → Table → Type 0

@@ -1,17 +1,22 @@
 -- Violations of policies at a level.
 -- Rule: levels (docs/RULES.md).
-use Rattle.std.specs.Prelude.{ℕ, List, [], Option, Some, None, option_map}
+use Rattle.std.specs.Prelude.{◌≡◌, ◌++◌, ℕ, List, [], map, Option, Some, None, option_map}
 use Rattle.std.specs.Option.{option_map_or}
+use Rattle.std.specs.declared.alloc.Global.{Global}
+use Rattle.std.specs.declared.vec.Vec.{Vec}
 use Rattle.cedar_expr_model.specs.Name.{Text}
 use Rattle.cedar_expr_model.specs.Tree.{Tree}
 use Rattle.cedar_expr_trees.specs.Trees.{tree_of}
 use Rattle.cedar_store_parts.specs.Parts.{id_text}
 use Rattle.cedar_store_parts.specs.Views.{too_deep}
+use Rattle.cedar_store_parts.specs.declared.policy_id.PolicyID.{PolicyID}
 use Rattle.cedar_typechecker_levels.specs.declared.level.EntityDerefLevel.{EntityDerefLevel}
 use Rattle.cedar_typechecker_model.specs.Facts.{no_facts}
 use Rattle.cedar_typechecker_model.specs.Levels.{Violation, violations}
 use Rattle.cedar_typechecker_model.specs.Rules.{Setting}
 use Rattle.cedar_typechecker_model.specs.Typing.{type_of}
+use Rattle.cedar_typechecker_policies.specs.Checks.{IsChecked}
+use Rattle.cedar_typechecker_policies.specs.declared.checked.Checked.{Checked}
 use Rattle.cedar_typechecker_policies.specs.declared.violations.PolicyViolation.{PolicyViolation}
 use Rattle.cedar_typechecker_scopes.specs.Faults.{Blame, blame}
 
@@ -43,3 +48,14 @@ reached_by id v = blame id (too_deep v.required)
 
 abbrev pub blame_told : PolicyViolation → Blame
 blame_told v = reached_by (violation_told v).policy (violation_told v).violation
+
+-- To the violations these are appended, and these of the policy.
+abbrev pub AddsReached : Vec PolicyViolation Global → Vec PolicyViolation Global → List Reached → Type 0
+AddsReached old new rs = map violation_told new.items ≡ map violation_told old.items ++ rs
+
+abbrev pub AddsReachedBy : PolicyID → Vec PolicyViolation Global → Vec PolicyViolation Global → List Violation → Type 0
+AddsReachedBy i old new vs = AddsReached old new (map (reached_in (id_text i)) vs)
+
+-- To the violations those of the typed condition of the policy are appended, at the level if there is one.
+abbrev pub AddsChecked : Option ℕ → Setting → PolicyID → Checked → Vec PolicyViolation Global → Vec PolicyViolation Global → Type 0
+AddsChecked n s i c old new = (t : Tree) → IsChecked s t (id_text i) c → AddsReachedBy i old new (violated_by n s t)

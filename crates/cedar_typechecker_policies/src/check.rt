@@ -4,14 +4,12 @@ ghost use Rattle.std.specs.Prelude.{◌≡◌, true, IfOk};
 ghost use Rattle.cedar_expr_model.specs.Name.{Text};
 ghost use Rattle.cedar_expr_model.specs.Tree.{Tree};
 ghost use Rattle.cedar_schema_model.specs.Types.{strict};
-ghost use Rattle.cedar_store_model.specs.Policy.{condition};
 ghost use Rattle.cedar_store_policies.specs.Templates.{template_of};
 ghost use Rattle.cedar_schema_joins.specs.Modes.{mode_of};
-ghost use Rattle.cedar_typechecker_environments.specs.Settings.{environment_of, setting_of};
+ghost use Rattle.cedar_typechecker_environments.specs.Settings.{setting_of};
 ghost use Rattle.cedar_typechecker_model.specs.Rules.{Setting};
-ghost use Rattle.cedar_typechecker_model.specs.Verdicts.{HasVerdict};
-ghost use Rattle.cedar_typechecker_policies.specs.Checks.{IsChecked, CheckSays, verdict_seen, is_passing};
-ghost use Rattle.cedar_typechecker_policies.specs.Sound.{ForAlike, MeansTruth};
+ghost use Rattle.cedar_typechecker_policies.specs.Checks.{IsChecked, CheckSays, verdict_seen, IsCheckOf, IsVerdictOn};
+ghost use Rattle.cedar_typechecker_policies.specs.Sound.{MeansTruthIfPassing};
 
 use crate::checked::{Checked, check_condition};
 use cedar_expr_trees::Expr;
@@ -76,7 +74,7 @@ pub(crate) fn check_said<S: TypingSchema>(
     world: &World<'_, S>,
     template: &Template,
 ) -> Result<PolicyCheck, AllocError>
-    ensures { IfOk result (CheckSays (setting_of S.schema S.table world.now) (condition (template_of template.now)) (template_of template.now).id) }
+    ensures { IfOk result (IsCheckOf (setting_of S.schema S.table world.now) (template_of template.now)) }
 {
     let checked = check_condition(alloc, world, template.id(), template.condition())?;
     Ok(policy_check(checked))
@@ -89,9 +87,9 @@ pub fn check_in<S: TypingSchema>(
     world: &World<'_, S>,
     template: &Template,
 ) -> Result<PolicyCheck, AllocError>
-    ensures verdict { IfOk result (λ c. HasVerdict (setting_of S.schema S.table world.now) (condition (template_of template.now)) (verdict_seen c)) }
-    ensures says { IfOk result (CheckSays (setting_of S.schema S.table world.now) (condition (template_of template.now)) (template_of template.now).id) }
-    ensures sound { mode_of world.now.mode ≡ strict → IfOk result (λ c. is_passing (verdict_seen c) ≡ true → ForAlike (S.schema world.now.schema.now) (S.table world.now.schema.now) (MeansTruth (environment_of world.now.env.now) (condition (template_of template.now)))) }
+    ensures verdict { IfOk result (IsVerdictOn (setting_of S.schema S.table world.now) (template_of template.now)) }
+    ensures says { IfOk result (IsCheckOf (setting_of S.schema S.table world.now) (template_of template.now)) }
+    ensures sound { mode_of world.now.mode ≡ strict → IfOk result (MeansTruthIfPassing (setting_of S.schema S.table world.now) (template_of template.now)) }
 {
     check_said(alloc, world, template)
 }

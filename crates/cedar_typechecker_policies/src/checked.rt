@@ -1,17 +1,15 @@
 //! The condition of a policy, typed in one environment, with its verdict and what is wrong with it.
 
-ghost use Rattle.std.specs.Prelude.{◌≡◌, true, None, IfOk, MatchOption};
-ghost use Rattle.std.specs.List.{list_all};
+ghost use Rattle.std.specs.Prelude.{◌≡◌, None, IfOk};
 ghost use Rattle.cedar_expr_model.specs.Lists.{is_nil};
 ghost use Rattle.cedar_expr_model.specs.Tree.{Tree};
 ghost use Rattle.cedar_expr_trees.specs.Trees.{tree_of};
 ghost use Rattle.cedar_store_parts.specs.Parts.{id_text};
-ghost use Rattle.cedar_typechecker_policies.specs.Conditions.{IsTypedAs, IsVerdictOf};
+ghost use Rattle.cedar_typechecker_policies.specs.Conditions.{IsTypedIfAny, IsVerdictOf};
 ghost use Rattle.cedar_typechecker_environments.specs.Settings.{setting_of};
-ghost use Rattle.cedar_typechecker_model.specs.Facts.{no_facts};
 ghost use Rattle.cedar_typechecker_model.specs.Rules.{Setting};
 ghost use Rattle.cedar_typechecker_model.specs.Typing.{type_of};
-ghost use Rattle.cedar_typechecker_policies.specs.Checks.{IsChecked, is_error_of};
+ghost use Rattle.cedar_typechecker_policies.specs.Checks.{IsChecked, AreErrorsOf};
 ghost use Rattle.cedar_typechecker_model.specs.Typed.{typed};
 
 use crate::condition::typed_condition;
@@ -40,7 +38,7 @@ pub(crate) struct Checked {
 // What the type of a condition says, which is here with the types of its parts if it has one itself.
 #[tactic(auto, using(crate::proofs::Said::verdict_typed, crate::proofs::Said::verdict_none))]
 fn verdict_on(condition: &Option<Expr<Option<Type>>>) -> Verdict
-    ensures { (s : Setting) (t : Tree) → MatchOption condition.now (typed s no_facts t ≡ None) (IsTypedAs s t) → IsVerdictOf (type_of s t) result }
+    ensures { (s : Setting) (t : Tree) → IsTypedIfAny s t condition.now → IsVerdictOf (type_of s t) result }
 {
     typed_as_judged();
     match condition {
@@ -57,7 +55,7 @@ fn errors_unless(
     faults: Faults,
     place: Option<Loc>,
 ) -> Result<Vec<ValidationError>, AllocError>
-    ensures policy { IfOk result (λ es. list_all (is_error_of (id_text policy_id.now)) es.items ≡ true) }
+    ensures policy { IfOk result (λ es. AreErrorsOf (id_text policy_id.now) es.items) }
     ensures some { IfOk result (λ es. is_nil es.items ≡ is_bool) }
 {
     if is_bool {

@@ -80,16 +80,12 @@ impl<'b, S: SchemaEnvironments> RequestEnvChecks<'b, S> {
 }
 
 impl<'b, S: SchemaEnvironments> RequestEnvChecks<'b, S> {
-    ghost use Rattle.cedar_store_model.specs.Policy.{condition};
-    ghost use Rattle.cedar_store_policies.specs.Templates.{template_of};
-    ghost use Rattle.cedar_schema_joins.specs.Modes.{mode_of};
     ghost use Rattle.cedar_typechecker_environments.specs.Settings.{environment_of};
-    ghost use Rattle.cedar_typechecker_model.specs.Verdicts.{in_mode};
-    ghost use Rattle.cedar_typechecker_policies.specs.Checks.{CheckSays};
+    ghost use Rattle.cedar_typechecker_policies.specs.Iterated.{IsCheckIn};
 
     // The check in the environment.
     fn check(&self, env: &RequestEnv) -> Result<PolicyCheck, AllocError>
-        ensures { IfOk result (CheckSays (in_mode (mode_of self.now.mode) (S.schema self.now.schema.now) (S.table self.now.schema.now) (environment_of env.now)) (condition (template_of self.now.template.now)) (template_of self.now.template.now).id) }
+        ensures { IfOk result (IsCheckIn S.schema S.table self.now (environment_of env.now)) }
     {
         let world = World {
             schema: self.schema,

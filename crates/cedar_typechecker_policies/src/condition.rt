@@ -2,10 +2,8 @@
 
 ghost use Rattle.std.specs.Prelude.{◌≡◌, true, is_some, None, IfOk, MatchOption};
 ghost use Rattle.cedar_expr_trees.specs.Trees.{tree_of, data_of};
-ghost use Rattle.cedar_typechecker_policies.specs.Conditions.{IsTypedAs};
+ghost use Rattle.cedar_typechecker_policies.specs.Conditions.{IsTypedIfAny};
 ghost use Rattle.cedar_typechecker_environments.specs.Settings.{setting_of};
-ghost use Rattle.cedar_typechecker_model.specs.Facts.{no_facts};
-ghost use Rattle.cedar_typechecker_model.specs.Typed.{typed};
 
 use cedar_expr_trees::Expr;
 use cedar_schema_types::Type;
@@ -25,14 +23,14 @@ fn with_type(expr: Expr<Option<Type>>) -> Option<Expr<Option<Type>>>
     }
 }
 
-/// The condition with the types of its parts, if it has one itself. If it has none, what is wrong with it is put behind the faults.
+/// The condition with the types of its parts, if it has one itself. If it has none, what is wrong with it is appended to the faults.
 pub(crate) fn typed_condition<S: TypingSchema>(
     alloc: Global,
     world: &World<'_, S>,
     faults: &mut Faults,
     condition: &Expr,
 ) -> Result<Option<Expr<Option<Type>>>, AllocError>
-    ensures { IfOk result (λ o. MatchOption o (typed (setting_of S.schema S.table world.now) no_facts (tree_of condition.now) ≡ None) (IsTypedAs (setting_of S.schema S.table world.now) (tree_of condition.now))) }
+    ensures { IfOk result (IsTypedIfAny (setting_of S.schema S.table world.now) (tree_of condition.now)) }
 {
     let none = CapabilitySet::new(alloc);
     match typecheck(alloc, world, &none, faults, condition)? {

@@ -1,24 +1,23 @@
 //! What is wrong with a policy.
 
-ghost use Rattle.std.specs.Prelude.{◌≡◌, true, false, IfOk, OnOk};
-ghost use Rattle.std.specs.List.{list_all};
+ghost use Rattle.std.specs.Prelude.{◌≡◌, false, IfOk, OnOk};
 ghost use Rattle.cedar_expr_model.specs.Lists.{is_nil};
 ghost use Rattle.cedar_store_parts.specs.Parts.{id_text};
-ghost use Rattle.cedar_typechecker_policies.specs.Checks.{is_error_of};
+ghost use Rattle.cedar_typechecker_policies.specs.Checks.{AreErrorsOf};
 
 use cedar_expr_names::Loc;
 use cedar_store_parts::{PolicyID, ValidationError};
 use cedar_typechecker_answers::{Faults, TypeFault, TypingErrorKind};
 use std::alloc::{AllocError, Global};
 
-// Puts the fault behind the errors, as one of the policy.
+// Appends the fault to the errors, as one of the policy.
 #[tactic(auto, using(crate::proofs::Wrong::one_more, crate::proofs::Wrong::some_there))]
 fn add_error(
     errors: &mut Vec<ValidationError>,
     policy_id: &PolicyID,
     fault: TypeFault,
 ) -> Result<(), AllocError>
-    ensures kept { OnOk result (list_all (is_error_of (id_text policy_id.now)) errors.old.items ≡ true → list_all (is_error_of (id_text policy_id.now)) errors.new.items ≡ true) }
+    ensures kept { OnOk result (AreErrorsOf (id_text policy_id.now) errors.old.items → AreErrorsOf (id_text policy_id.now) errors.new.items) }
     ensures some { OnOk result (is_nil errors.new.items ≡ false) }
 {
     let TypeFault { kind, source_loc } = fault;
@@ -38,7 +37,7 @@ fn errors_by(
     policy_id: &PolicyID,
     faults: Faults,
 ) -> Result<Vec<ValidationError>, AllocError>
-    ensures { IfOk result (λ es. list_all (is_error_of (id_text policy_id.now)) es.items ≡ true) }
+    ensures { IfOk result (λ es. AreErrorsOf (id_text policy_id.now) es.items) }
 {
     let mut errors = Vec::new(alloc);
     for fault in faults {
@@ -55,7 +54,7 @@ pub(crate) fn errors_of(
     mut faults: Faults,
     source_loc: Option<Loc>,
 ) -> Result<Vec<ValidationError>, AllocError>
-    ensures policy { IfOk result (λ es. list_all (is_error_of (id_text policy_id.now)) es.items ≡ true) }
+    ensures policy { IfOk result (λ es. AreErrorsOf (id_text policy_id.now) es.items) }
     ensures some { IfOk result (λ es. is_nil es.items ≡ false) }
 {
     let kind = TypingErrorKind::UnexpectedType;

@@ -1,13 +1,12 @@
 //! What typing and levels say of a policy over its environments.
 
-ghost use Rattle.std.specs.Prelude.{◌≡◌, true, not, ◌&&◌, ◌||◌, ◌++◌, ◌∷◌, [], List, map, IfOk, OnOk};
+ghost use Rattle.std.specs.Prelude.{◌≡◌, true, not, ◌&&◌, ◌||◌, ◌++◌, [], map, IfOk, OnOk};
 ghost use Rattle.cedar_schema_joins.specs.Modes.{mode_of};
-ghost use Rattle.cedar_schema_model.specs.Environment.{Environment};
 ghost use Rattle.cedar_store_policies.specs.Templates.{template_of};
 ghost use Rattle.cedar_typechecker_environments.specs.Settings.{environment_of};
-ghost use Rattle.cedar_typechecker_model.specs.Verdicts.{policy_environments};
-ghost use Rattle.cedar_typechecker_policies.specs.Findings.{ChecksOver, policy_in, level_in};
+ghost use Rattle.cedar_typechecker_policies.specs.Findings.{ChecksOverAll, ChecksOneMore, SubjectChecks, SubjectFinds};
 ghost use Rattle.cedar_typechecker_policies.specs.Violations.{level_of};
+ghost use Rattle.cedar_typechecker_scopes.specs.Environments.{AreOfSchema};
 
 use crate::bindings::fits;
 use crate::checked::check_condition;
@@ -18,7 +17,7 @@ use cedar_store_parts::{PolicyID, SlotEnv, ValidationError};
 use cedar_store_policies::Template;
 use cedar_typechecker_environments::{RequestEnv, TypingSchema, World};
 use cedar_typechecker_levels::EntityDerefLevel;
-use cedar_typechecker_scopes::{SchemaEnvironments, policy_environments};
+use cedar_typechecker_scopes::{SchemaEnvironments, policy_environments_by};
 use std::alloc::{AllocError, Global};
 
 /// A policy that is checked.
@@ -66,7 +65,7 @@ fn nothing_found(alloc: Global) -> PolicyFindings
     }
 }
 
-// Puts these errors behind those that were found.
+// Appends these errors to those that were found.
 pub(crate) fn add_errors(
     found: &mut Vec<ValidationError>,
     errors: Vec<ValidationError>,
@@ -101,7 +100,7 @@ fn add_environment<S: TypingSchema>(
     env: &RequestEnv,
     found: &mut PolicyFindings,
 ) -> Result<(), AllocError>
-    ensures { OnOk result ((es : List Environment) → ChecksOver (level_in policy.now) (mode_of mode) (S.schema schema.now) (S.table schema.now) (policy_in policy.now) es found.old → ChecksOver (level_in policy.now) (mode_of mode) (S.schema schema.now) (S.table schema.now) (policy_in policy.now) (es ++ environment_of env.now ∷ []) found.new) }
+    ensures { OnOk result (ChecksOneMore S.schema S.table schema.now (mode_of mode) policy.now (environment_of env.now) found.old found.new) }
 {
     let world = World { schema, mode, env };
     let checked = check_condition(alloc, &world, policy.id, policy.template.condition())?;
@@ -121,7 +120,7 @@ fn check_over<S: TypingSchema>(
     policy: &Subject<'_>,
     envs: &[RequestEnv],
 ) -> Result<PolicyFindings, AllocError>
-    ensures { IfOk result (ChecksOver (level_in policy.now) (mode_of mode) (S.schema schema.now) (S.table schema.now) (policy_in policy.now) (map environment_of envs.now)) }
+    ensures { IfOk result (SubjectChecks S.schema S.table schema.now (mode_of mode) policy.now (map environment_of envs.now)) }
 {
     let mut found = nothing_found(alloc);
     for env in envs {
@@ -137,9 +136,23 @@ pub fn check_policy<S: SchemaEnvironments>(
     mode: ValidationMode,
     policy: &Subject<'_>,
 ) -> Result<PolicyFindings, AllocError>
-    ensures { IfOk result (ChecksOver (level_in policy.now) (mode_of mode) (S.schema schema.now) (S.table schema.now) (policy_in policy.now) (policy_environments (S.schema schema.now) (policy_in policy.now))) }
+    ensures { IfOk result (SubjectFinds S.schema S.table schema.now (mode_of mode) policy.now) }
 {
-    let envs = policy_environments(alloc, schema, policy.template)?;
+    let own = schema.environments(alloc)?;
+    check_policy_by(alloc, schema, own.as_slice(), mode, policy)
+}
+
+/// What typing and levels say of the policy in a mode, where these are the environments of the schema. Fails only when out of memory.
+pub fn check_policy_by<S: SchemaEnvironments>(
+    alloc: Global,
+    schema: &S,
+    own: &[RequestEnv],
+    mode: ValidationMode,
+    policy: &Subject<'_>,
+) -> Result<PolicyFindings, AllocError>
+    ensures { AreOfSchema (S.schema schema.now) own.now → IfOk result (SubjectFinds S.schema S.table schema.now (mode_of mode) policy.now) }
+{
+    let envs = policy_environments_by(alloc, schema, own, policy.template)?;
     check_over(alloc, schema, mode, policy, envs.as_slice())
 }
 
@@ -151,7 +164,7 @@ pub(crate) fn check_template<S: SchemaEnvironments>(
     template: &Template,
     level: Option<EntityDerefLevel>,
 ) -> Result<PolicyFindings, AllocError>
-    ensures { IfOk result (ChecksOver (level_of level) (mode_of mode) (S.schema schema.now) (S.table schema.now) (template_of template.now) (policy_environments (S.schema schema.now) (template_of template.now))) }
+    ensures { IfOk result (ChecksOverAll (level_of level) (mode_of mode) (S.schema schema.now) (S.table schema.now) (template_of template.now)) }
 {
     let bound = SlotEnv::new();
     let policy = Subject {

@@ -1,15 +1,13 @@
 //! Policies whose levels are counted.
 
-ghost use Rattle.std.specs.Prelude.{◌≡◌, ◌++◌, [], map, IfOk, OnOk};
+ghost use Rattle.std.specs.Prelude.{◌≡◌, ◌++◌, map, IfOk, OnOk};
 ghost use Rattle.cedar_schema_joins.specs.Modes.{mode_of};
 ghost use Rattle.cedar_schema_model.specs.Types.{strict};
-ghost use Rattle.cedar_store_policies.specs.Templates.{template_of, template_loc};
+ghost use Rattle.cedar_store_policies.specs.Templates.{template_of};
 ghost use Rattle.cedar_store_parts.specs.Views.{warning_of};
-ghost use Rattle.cedar_typechecker_policies.specs.Findings.{warned_as};
-ghost use Rattle.cedar_typechecker_policies.specs.Found.{FindsErrors, FindsWarnings, scope_blames, asked_in};
-ghost use Rattle.cedar_typechecker_policies.specs.Sound.{ForAlike, PolicyMeansTruth, LooksInReach};
+ghost use Rattle.cedar_typechecker_policies.specs.Found.{scope_blames};
+ghost use Rattle.cedar_typechecker_policies.specs.Validated.{template_warnings, all_blames, HasErrors, HasWarnings, MeansTruthUnlessWrong, InReachUnlessWrong};
 ghost use Rattle.cedar_typechecker_policies.specs.Violations.{blame_told};
-ghost use Rattle.cedar_typechecker_scopes.specs.Applying.{application_warnings};
 ghost use Rattle.cedar_typechecker_scopes.specs.Faults.{blame_of};
 
 use crate::findings::{PolicyFindings, add_errors, check_template};
@@ -43,7 +41,7 @@ fn level_error(violation: PolicyViolation) -> ValidationError
     }
 }
 
-// Puts what is said of these violations behind the errors.
+// Appends what is said of these violations to the errors.
 fn add_violations(
     errors: &mut Vec<ValidationError>,
     violations: Vec<PolicyViolation>,
@@ -81,7 +79,7 @@ fn scope_errors<S: ScopeSchema>(
     Ok(errors)
 }
 
-// Puts these warnings behind those that were found.
+// Appends these warnings to those that were found.
 fn add_warnings(
     found: &mut Vec<ValidationWarning>,
     warnings: Vec<ValidationWarning>,
@@ -101,7 +99,7 @@ fn all_warnings<S: ScopeSchema>(
     template: &Template,
     is_warned: bool,
 ) -> Result<Vec<ValidationWarning>, AllocError>
-    ensures { IfOk result (λ ws. map warning_of ws.items ≡ warned_as (template_of template.now).id (template_loc template.now) is_warned ++ application_warnings (S.schema schema.now) (template_of template.now).id (template_loc template.now) (asked_in (template_of template.now))) }
+    ensures { IfOk result (λ ws. map warning_of ws.items ≡ template_warnings (S.schema schema.now) template.now is_warned) }
 {
     let mut warnings = warning_for(alloc, template, is_warned)?;
     let further = validate_template_action_application(alloc, schema, template)?;
@@ -116,8 +114,8 @@ fn gathered<S: ScopeSchema>(
     template: &Template,
     found: PolicyFindings,
 ) -> Result<Validated, AllocError>
-    ensures errors { IfOk result (λ v. map blame_of v.errors.items ≡ (scope_blames (S.schema schema.now) (template_of template.now) ++ map blame_of found.errors.items) ++ map blame_told found.violations.items) }
-    ensures warnings { IfOk result (λ v. map warning_of v.warnings.items ≡ warned_as (template_of template.now).id (template_loc template.now) found.is_warned ++ application_warnings (S.schema schema.now) (template_of template.now).id (template_loc template.now) (asked_in (template_of template.now))) }
+    ensures errors { IfOk result (λ v. map blame_of v.errors.items ≡ all_blames (S.schema schema.now) (template_of template.now) found) }
+    ensures warnings { IfOk result (λ v. map warning_of v.warnings.items ≡ template_warnings (S.schema schema.now) template.now found.is_warned) }
 {
     let warnings = all_warnings(alloc, schema, template, found.is_warned)?;
     let mut errors = scope_errors(alloc, schema, template)?;
@@ -137,10 +135,10 @@ pub fn validate_policy_with_level<S: ScopeSchema>(
     template: &Template,
     max_deref_level: EntityDerefLevel,
 ) -> Result<Validated, AllocError>
-    ensures errors { IfOk result (λ v. FindsErrors max_deref_level.level (mode_of mode) (S.schema schema.now) (S.table schema.now) (template_of template.now) v.errors.items) }
-    ensures warnings { IfOk result (λ v. FindsWarnings (mode_of mode) (S.schema schema.now) (S.table schema.now) (template_of template.now) (template_loc template.now) v.warnings.items) }
-    ensures sound { mode_of mode ≡ strict → IfOk result (λ v. v.errors.items ≡ [] → ForAlike (S.schema schema.now) (S.table schema.now) (PolicyMeansTruth (template_of template.now))) }
-    ensures reach { mode_of mode ≡ strict → IfOk result (λ v. v.errors.items ≡ [] → ForAlike (S.schema schema.now) (S.table schema.now) (LooksInReach max_deref_level.level (template_of template.now))) }
+    ensures errors { IfOk result (HasErrors max_deref_level.level (mode_of mode) (S.schema schema.now) (S.table schema.now) template.now) }
+    ensures warnings { IfOk result (HasWarnings (mode_of mode) (S.schema schema.now) (S.table schema.now) template.now) }
+    ensures sound { mode_of mode ≡ strict → IfOk result (MeansTruthUnlessWrong (S.schema schema.now) (S.table schema.now) template.now) }
+    ensures reach { mode_of mode ≡ strict → IfOk result (InReachUnlessWrong (S.schema schema.now) (S.table schema.now) max_deref_level.level template.now) }
 {
     let found = check_template(alloc, schema, mode, template, Some(max_deref_level))?;
     gathered(alloc, schema, template, found)

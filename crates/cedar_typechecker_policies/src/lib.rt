@@ -19,7 +19,7 @@ mod violations;
 pub use bindings::fits;
 pub use check::{PolicyCheck, check_in};
 pub use checks::RequestEnvChecks;
-pub use findings::{PolicyFindings, Subject, check_policy};
+pub use findings::{PolicyFindings, Subject, check_policy, check_policy_by};
 pub use leveled::{Validated, validate_policy_with_level};
 pub use policy::typecheck_policy;
 pub use violations::PolicyViolation;

@@ -1,6 +1,6 @@
 //! What typing says of a policy.
 
-ghost use Rattle.std.specs.Prelude.{◌≡◌, true, map, IfOk, OnOk, OnErr};
+ghost use Rattle.std.specs.Prelude.{◌≡◌, map, IfOk, OnOk, OnErr};
 ghost use Rattle.std.specs.HashSet.{IsSameSet};
 ghost use Rattle.std.specs.Set.{IsUnion};
 ghost use Rattle.cedar_schema_joins.specs.Modes.{mode_of};
@@ -9,8 +9,8 @@ ghost use Rattle.cedar_store_policies.specs.Templates.{template_of, template_loc
 ghost use Rattle.cedar_store_parts.specs.Views.{warning_of};
 ghost use Rattle.cedar_typechecker_model.specs.Verdicts.{passes_in, is_warned};
 ghost use Rattle.cedar_typechecker_policies.specs.Findings.{warned_as};
-ghost use Rattle.cedar_typechecker_policies.specs.Found.{GainsErrors, GainsWarnings};
-ghost use Rattle.cedar_typechecker_policies.specs.Sound.{ForAlike, PolicyMeansTruth};
+ghost use Rattle.cedar_typechecker_policies.specs.Validated.{GainsWarningOf, GainsErrorsBy, GainsWarningBy};
+ghost use Rattle.cedar_typechecker_policies.specs.Sound.{PolicyMeansTruthIf};
 
 use crate::findings::{PolicyFindings, check_template};
 use crate::sets::add_all;
@@ -52,7 +52,7 @@ fn put_findings(
 ) -> Result<bool, AllocError>
     ensures passes { IfOk result (λ b. b ≡ found.passes) }
     ensures errors { OnOk result (IsUnion ⟦<ValidationError as PartialEq>⟧.eq type_errors.old.keys found.errors.items type_errors.new.keys) }
-    ensures warnings { OnOk result (GainsWarnings ⟦<ValidationWarning as PartialEq>⟧.eq (template_of template.now).id (template_loc template.now) found.is_warned warnings.old warnings.new) }
+    ensures warnings { OnOk result (GainsWarningOf template.now found.is_warned warnings.old warnings.new) }
     ensures errors_kept { OnErr result (IsSameSet ⟦<ValidationError as PartialEq>⟧.eq type_errors.new type_errors.old) }
     ensures warnings_kept { OnErr result (IsSameSet ⟦<ValidationWarning as PartialEq>⟧.eq warnings.new warnings.old) }
 {
@@ -84,11 +84,11 @@ pub fn typecheck_policy<S: SchemaEnvironments>(
     warnings: &mut HashSet<ValidationWarning>,
 ) -> Result<bool, AllocError>
     ensures passes { IfOk result (λ b. b ≡ passes_in (mode_of mode) (S.schema schema.now) (S.table schema.now) (template_of template.now)) }
-    ensures errors { OnOk result (GainsErrors ⟦<ValidationError as PartialEq>⟧.eq (template_of template.now).id (passes_in (mode_of mode) (S.schema schema.now) (S.table schema.now) (template_of template.now)) type_errors.old type_errors.new) }
-    ensures warnings { OnOk result (GainsWarnings ⟦<ValidationWarning as PartialEq>⟧.eq (template_of template.now).id (template_loc template.now) (is_warned (mode_of mode) (S.schema schema.now) (S.table schema.now) (template_of template.now)) warnings.old warnings.new) }
+    ensures errors { OnOk result (GainsErrorsBy S.schema S.table schema.now (mode_of mode) template.now type_errors.old type_errors.new) }
+    ensures warnings { OnOk result (GainsWarningBy S.schema S.table schema.now (mode_of mode) template.now warnings.old warnings.new) }
     ensures errors_kept { OnErr result (IsSameSet ⟦<ValidationError as PartialEq>⟧.eq type_errors.new type_errors.old) }
     ensures warnings_kept { OnErr result (IsSameSet ⟦<ValidationWarning as PartialEq>⟧.eq warnings.new warnings.old) }
-    ensures sound { mode_of mode ≡ strict → IfOk result (λ b. b ≡ true → ForAlike (S.schema schema.now) (S.table schema.now) (PolicyMeansTruth (template_of template.now))) }
+    ensures sound { mode_of mode ≡ strict → IfOk result (PolicyMeansTruthIf (S.schema schema.now) (S.table schema.now) (template_of template.now)) }
 {
     let found = check_template(alloc, schema, mode, template, None)?;
     put_findings(alloc, template, found, type_errors, warnings)

@@ -1,15 +1,11 @@
 //! Where policies reach too far.
 
-ghost use Rattle.std.specs.Prelude.{◌≡◌, ◌++◌, ◌∷◌, [], map, Some, OnOk};
-ghost use Rattle.cedar_expr_model.specs.Tree.{Tree};
-ghost use Rattle.cedar_expr_trees.specs.Trees.{tree_of};
+ghost use Rattle.std.specs.Prelude.{◌∷◌, [], map, Some, OnOk};
 ghost use Rattle.cedar_store_parts.specs.Parts.{id_text};
 ghost use Rattle.cedar_typechecker_environments.specs.Settings.{setting_of};
-ghost use Rattle.cedar_typechecker_levels.specs.Marked.{marks_of};
+ghost use Rattle.cedar_typechecker_levels.specs.Marked.{typed_violations};
 ghost use Rattle.cedar_typechecker_levels.specs.Views.{violation_of};
-ghost use Rattle.cedar_typechecker_model.specs.Counts.{violations_at};
-ghost use Rattle.cedar_typechecker_policies.specs.Checks.{IsChecked};
-ghost use Rattle.cedar_typechecker_policies.specs.Violations.{reached_in, violation_told, violated_by, level_of};
+ghost use Rattle.cedar_typechecker_policies.specs.Violations.{level_of, AddsReached, AddsChecked, reached_in, AddsReachedBy};
 
 use crate::checked::Checked;
 use cedar_expr_trees::Expr;
@@ -31,13 +27,13 @@ pub struct PolicyViolation {
     pub required: Option<u64>,
 }
 
-// Puts the violation of the policy behind those that were found.
+// Appends the violation of the policy to those that were found.
 fn add_violation(
     found: &mut Vec<PolicyViolation>,
     policy_id: &PolicyID,
     violation: &LevelViolation<'_>,
 ) -> Result<(), AllocError>
-    ensures { OnOk result (map violation_told found.new.items ≡ map violation_told found.old.items ++ reached_in (id_text policy_id.now) (violation_of violation.now) ∷ []) }
+    ensures { OnOk result (AddsReached found.old found.new (reached_in (id_text policy_id.now) (violation_of violation.now) ∷ [])) }
 {
     let policy_id = policy_id.clone()?;
     let expr = violation.at.clone()?;
@@ -49,13 +45,13 @@ fn add_violation(
     Ok(())
 }
 
-// Puts these violations of the policy behind those that were found.
+// Appends these violations of the policy to those that were found.
 fn add_violations(
     found: &mut Vec<PolicyViolation>,
     policy_id: &PolicyID,
     violations: &[LevelViolation<'_>],
 ) -> Result<(), AllocError>
-    ensures { OnOk result (map violation_told found.new.items ≡ map violation_told found.old.items ++ map (λ v. reached_in (id_text policy_id.now) (violation_of v)) violations.now) }
+    ensures { OnOk result (AddsReached found.old found.new (map (λ v. reached_in (id_text policy_id.now) (violation_of v)) violations.now)) }
 {
     for violation in violations {
         add_violation(found, policy_id, violation)?;
@@ -63,7 +59,7 @@ fn add_violations(
     Ok(())
 }
 
-// Puts the violations of the policy's typed condition at the level behind those that were found.
+// Appends the violations of the policy's typed condition at the level to those that were found.
 fn add_reached<S: TypingSchema>(
     alloc: Global,
     world: &World<'_, S>,
@@ -72,14 +68,14 @@ fn add_reached<S: TypingSchema>(
     typed: &Expr<Option<Type>>,
     found: &mut Vec<PolicyViolation>,
 ) -> Result<(), AllocError>
-    ensures { OnOk result (map violation_told found.new.items ≡ map violation_told found.old.items ++ map (reached_in (id_text policy_id.now)) (violations_at level.level (setting_of S.schema S.table world.now) (tree_of typed.now) (marks_of typed.now))) }
+    ensures { OnOk result (AddsReachedBy policy_id.now found.old found.new (typed_violations level.level (setting_of S.schema S.table world.now) typed.now)) }
 {
     let violations = level_violations(alloc, world, level, typed)?;
     add_violations(found, policy_id, violations.as_slice())?;
     Ok(())
 }
 
-// Puts the violations of the policy's condition at the level, if there is one and the condition has a type, behind those that were found.
+// Appends the violations of the policy's condition at the level, if there is one and the condition has a type, to those that were found.
 pub(crate) fn add_reached_of<S: TypingSchema>(
     alloc: Global,
     world: &World<'_, S>,
@@ -88,7 +84,7 @@ pub(crate) fn add_reached_of<S: TypingSchema>(
     checked: &Checked,
     found: &mut Vec<PolicyViolation>,
 ) -> Result<(), AllocError>
-    ensures { OnOk result ((t : Tree) → IsChecked (setting_of S.schema S.table world.now) t (id_text policy_id.now) checked.now → map violation_told found.new.items ≡ map violation_told found.old.items ++ map (reached_in (id_text policy_id.now)) (violated_by (level_of level) (setting_of S.schema S.table world.now) t)) }
+    ensures { OnOk result (AddsChecked (level_of level) (setting_of S.schema S.table world.now) policy_id.now checked.now found.old found.new) }
 {
     typed_as_judged();
     counted_on_marks();

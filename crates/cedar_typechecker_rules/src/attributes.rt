@@ -7,6 +7,7 @@ ghost use Rattle.cedar_schema_types.specs.Types.{type_of, attribute_of};
 ghost use Rattle.cedar_typechecker_model.specs.Rules.{has_type, has_field, attribute_type};
 ghost use Rattle.cedar_typechecker_model.specs.Typing.{step_type};
 ghost use Rattle.cedar_typechecker_environments.specs.Settings.{setting_of};
+ghost use Rattle.cedar_typechecker_environments.specs.Given.{GivesType};
 
 use cedar_schema_joins::{lookup_attribute_type, may_have_attr};
 use cedar_schema_types::{AttributeType, BoolType, OpenTag, Type};
@@ -65,7 +66,7 @@ pub fn get_type<S: TypingSchema>(
     attr: &str,
     is_known: bool,
 ) -> Result<Option<Type>, AllocError>
-    ensures { IfOk result (λ t. option_map type_of t ≡ attribute_type is_known (lookup_attribute (S.schema world.now.schema.now) (type_of ty.now) attr.now)) }
+    ensures { IfOk result (GivesType (attribute_type is_known (lookup_attribute (S.schema world.now.schema.now) (type_of ty.now) attr.now))) }
 {
     let declared = lookup_attribute_type(alloc, world.schema, ty, attr)?;
     Ok(if_usable(declared, is_known))

@@ -2,13 +2,14 @@
 
 ghost use Rattle.std.specs.Prelude.{◌≡◌, option_map, IfOk};
 ghost use Rattle.cedar_expr_model.specs.Tree.{equal};
-ghost use Rattle.cedar_expr_names.specs.Views.{uid_of};
 ghost use Rattle.cedar_expr_trees.specs.Trees.{tree_of};
 ghost use Rattle.cedar_schema_model.specs.Types.{long_type};
 ghost use Rattle.cedar_schema_joins.specs.Modes.{mode_of};
 ghost use Rattle.cedar_schema_types.specs.Types.{type_of};
 ghost use Rattle.cedar_typechecker_model.specs.Rules.{binary_type, written_equal, number_type, order_type, comparable, member_type, sets_type, is_set_type, if_there};
 ghost use Rattle.cedar_typechecker_environments.specs.Settings.{setting_of};
+ghost use Rattle.cedar_typechecker_environments.specs.Given.{GivesType};
+ghost use Rattle.cedar_typechecker_rules.specs.Uids.{equal_written};
 
 use crate::uids::written_uid;
 use cedar_expr_names::EntityUID;
@@ -105,7 +106,7 @@ pub fn equal_type<S: TypingSchema>(
     t: &Type,
     u: &Type,
 ) -> Result<Option<Type>, AllocError>
-    ensures { IfOk result (λ r. option_map type_of r ≡ binary_type (setting_of S.schema S.table world.now) equal (tree_of a.now) (tree_of b.now) (type_of t.now) (type_of u.now)) }
+    ensures { IfOk result (GivesType (binary_type (setting_of S.schema S.table world.now) equal (tree_of a.now) (tree_of b.now) (type_of t.now) (type_of u.now))) }
 {
     if are_types_disjoint(t, u) {
         return Ok(Some(Type::singleton_boolean(false)));
@@ -129,7 +130,7 @@ fn written_equal<S: TypingSchema>(
     t: &Type,
     u: &Type,
 ) -> Result<Option<Type>, AllocError>
-    ensures { IfOk result (λ r. option_map type_of r ≡ written_equal (setting_of S.schema S.table world.now) (option_map (λ u. uid_of u.now) first.entry) (option_map (λ u. uid_of u.now) second.entry) (type_of t.now) (type_of u.now)) }
+    ensures { IfOk result (GivesType (equal_written (setting_of S.schema S.table world.now) first.entry second.entry t.now u.now)) }
 {
     match (first, second) {
         (Some(first), Some(second)) => Ok(Some(Type::singleton_boolean(first.same(second)))),

@@ -3,7 +3,6 @@
 ghost use Rattle.std.specs.Prelude.{◌≡◌, map, option_map, option_and_then, IfOk};
 ghost use Rattle.cedar_expr_model.specs.Builder.{trees};
 ghost use Rattle.cedar_expr_model.specs.Lists.{all_given};
-ghost use Rattle.cedar_expr_names.specs.Views.{plain_name_of};
 ghost use Rattle.cedar_expr_trees.specs.Trees.{tree_of};
 ghost use Rattle.cedar_expr_values.specs.Types.{core_of};
 ghost use Rattle.cedar_schema_joins.specs.Modes.{mode_of};
@@ -11,8 +10,9 @@ ghost use Rattle.cedar_schema_types.specs.Types.{type_of};
 ghost use Rattle.cedar_typechecker_model.specs.Rules.{call_type, core_as_type, arguments_fit};
 ghost use Rattle.cedar_typechecker_rules.specs.Arguments.{after_one};
 ghost use Rattle.cedar_typechecker_environments.specs.Settings.{setting_of};
+ghost use Rattle.cedar_typechecker_environments.specs.Given.{GivesType};
 ghost use Rattle.cedar_typechecker_environments.specs.Signatures.{signature_seen};
-ghost use Rattle.cedar_typechecker_rules.specs.Signatures.{counts, literal_taken, called_type};
+ghost use Rattle.cedar_typechecker_rules.specs.Signatures.{counts, literal_taken, called_type, types_seen, type_of_call};
 
 use crate::uids::is_text_literal;
 use cedar_expr_names::Name;
@@ -33,7 +33,7 @@ pub fn call_type<S: TypingSchema>(
     args: &[Expr],
     types: &[&Type],
 ) -> Result<Option<Type>, AllocError>
-    ensures { IfOk result (λ t. option_map type_of t ≡ call_type (setting_of S.schema S.table world.now) (plain_name_of name.now) (trees (map tree_of args.now)) (map (λ t. type_of t.now) types.now)) }
+    ensures { IfOk result (GivesType (type_of_call (setting_of S.schema S.table world.now) name.now args.now types.now)) }
 {
     match world.schema.function(name)? {
         Some(f) => called_type(alloc, world.mode, f, args, types),
@@ -49,7 +49,7 @@ fn called_type(
     args: &[Expr],
     types: &[&Type],
 ) -> Result<Option<Type>, AllocError>
-    ensures { IfOk result (λ t. option_map type_of t ≡ called_type (mode_of mode) (trees (map tree_of args.now)) (map (λ t. type_of t.now) types.now) (signature_seen f.entry)) }
+    ensures { IfOk result (GivesType (called_type (mode_of mode) (trees (map tree_of args.now)) (types_seen types.now) (signature_seen f.entry))) }
 {
     let Some(parameters) = all_core_types(alloc, f.arg_types)? else {
         return Ok(None);

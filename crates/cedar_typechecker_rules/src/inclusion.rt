@@ -1,20 +1,15 @@
 //! `in`: membership of entities.
 
-ghost use Rattle.std.specs.Prelude.{◌≡◌, ◌||◌, map, option_map};
+ghost use Rattle.std.specs.Prelude.{◌≡◌, ◌||◌, option_map};
 ghost use Rattle.std.specs.List.{list_any};
-ghost use Rattle.cedar_expr_model.specs.Name.{name_eq};
-ghost use Rattle.cedar_expr_model.specs.Builder.{trees};
-ghost use Rattle.cedar_expr_model.specs.Lists.{all_given};
-ghost use Rattle.cedar_expr_model.specs.Parts.{listed};
 ghost use Rattle.cedar_expr_names.specs.Views.{type_name_of, uid_of};
 ghost use Rattle.cedar_expr_trees.specs.Trees.{tree_of};
-ghost use Rattle.cedar_schema_model.specs.Descent.{type_descends};
 ghost use Rattle.cedar_schema_model.specs.Types.{set_type};
 ghost use Rattle.cedar_schema_types.specs.Types.{type_of};
 ghost use Rattle.cedar_schema_types.specs.Unions.{members_of};
 ghost use Rattle.cedar_typechecker_model.specs.Rules.{in_type, entity_kinds, entity_or_set_kinds, may_be_in, action_literal, written_actions};
-ghost use Rattle.cedar_typechecker_rules.specs.Decided.{is_within, within_some, decided_in};
-ghost use Rattle.cedar_typechecker_rules.specs.Kinds.{kinds_of, holders_of};
+ghost use Rattle.cedar_typechecker_rules.specs.Decided.{is_within, within_some, decided_in, actions_listed};
+ghost use Rattle.cedar_typechecker_rules.specs.Kinds.{kinds_of, holders_of, is_among_or_below};
 ghost use Rattle.cedar_typechecker_environments.specs.Settings.{setting_of};
 
 use crate::uids::{action_literal, set_members, written_action};
@@ -44,7 +39,7 @@ pub fn in_type<S: TypingSchema>(
     }
 }
 
-// Entities that others may be in: those of a kind, or of the members of a set; or nothing, of the empty set.
+// Entities that others may be in: those of an entity type, or of the members of a set; or nothing, of the empty set.
 #[derive(Clone, Copy)]
 pub(crate) enum Holders<'a> {
     Kind(&'a EntityKind),
@@ -102,7 +97,7 @@ fn held(element: &Type) -> Option<Holders<'_>>
     }
 }
 
-// Whether an entity of this kind may be one of the holders, or in one.
+// Whether an entity of these types may be one of the holders, or in one.
 #[tactic(auto, using(crate::proofs::Included::in_nothing))]
 fn may_be_in<S: TypingSchema>(world: &World<'_, S>, kind: &EntityKind, holders: Holders<'_>) -> bool
     ensures { result ≡ may_be_in (S.schema world.now.schema.now) (kinds_of kind.now) (holders_of holders.entry) }
@@ -116,7 +111,7 @@ fn may_be_in<S: TypingSchema>(world: &World<'_, S>, kind: &EntityKind, holders: 
     }
 }
 
-// Whether an entity of this kind may be one of the other, or in one.
+// Whether an entity of these types may be one of the other, or in one.
 fn may_be_in_kind<S: TypingSchema>(
     world: &World<'_, S>,
     kind: &EntityKind,
@@ -134,7 +129,7 @@ fn may_be_in_kind<S: TypingSchema>(
 
 // Whether an entity of some member of the first union may be one of the second, or in one.
 fn are_related<S: TypingSchema>(world: &World<'_, S>, own: &EntityLUB, union: &EntityLUB) -> bool
-    ensures { result ≡ list_any (λ m. list_any (λ n. name_eq m n || type_descends (S.schema world.now.schema.now) m n) (members_of union.now)) (members_of own.now) }
+    ensures { result ≡ list_any (is_among_or_below (S.schema world.now.schema.now) (members_of union.now)) (members_of own.now) }
 {
     for ty in own.iter() {
         if is_related(world, ty, union) {
@@ -146,7 +141,7 @@ fn are_related<S: TypingSchema>(world: &World<'_, S>, own: &EntityLUB, union: &E
 
 // Whether an entity of this type may be one of the union, or in one.
 fn is_related<S: TypingSchema>(world: &World<'_, S>, ty: &EntityType, union: &EntityLUB) -> bool
-    ensures { result ≡ list_any (λ n. name_eq (type_name_of ty.now) n || type_descends (S.schema world.now.schema.now) (type_name_of ty.now) n) (members_of union.now) }
+    ensures { result ≡ is_among_or_below (S.schema world.now.schema.now) (members_of union.now) (type_name_of ty.now) }
 {
     for above in union.iter() {
         if ty.same(above) || world.schema.type_descends(ty, above) {
@@ -185,7 +180,7 @@ fn is_within_listed<S: TypingSchema>(
     uid: &EntityUID,
     members: &[Expr],
 ) -> Option<bool>
-    ensures { result ≡ within_some (setting_of S.schema S.table world.now) (uid_of uid.now) (all_given (action_literal (setting_of S.schema S.table world.now)) (listed (trees (map tree_of members.now)))) }
+    ensures { result ≡ within_some (setting_of S.schema S.table world.now) (uid_of uid.now) (actions_listed (setting_of S.schema S.table world.now) members.now) }
 {
     let mut is_found = false;
     for e in members {

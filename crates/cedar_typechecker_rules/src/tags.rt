@@ -10,6 +10,7 @@ ghost use Rattle.cedar_schema_types.specs.Types.{type_of};
 ghost use Rattle.cedar_schema_types.specs.Unions.{members_of, entities_of};
 ghost use Rattle.cedar_typechecker_model.specs.Rules.{has_tag_type, tag_type, tags_of, may_have_tags, is_string_type};
 ghost use Rattle.cedar_typechecker_environments.specs.Settings.{setting_of};
+ghost use Rattle.cedar_typechecker_environments.specs.Given.{GivesType};
 
 use cedar_schema_joins::{ValidationMode, least_upper_bound};
 use cedar_schema_types::{BoolType, EntityKind, EntityLUB, Type};
@@ -52,7 +53,7 @@ fn is_string_type(ty: &Type) -> bool
     }
 }
 
-// Whether an entity of this kind may have tags.
+// Whether an entity of these types may have tags.
 fn may_have_tags<S: TypingSchema>(world: &World<'_, S>, kind: &EntityKind) -> bool
     ensures { result ≡ may_have_tags (setting_of S.schema S.table world.now) (entities_of kind.now) }
 {
@@ -82,7 +83,7 @@ pub fn get_tag_type<S: TypingSchema>(
     u: &Type,
     is_known: bool,
 ) -> Result<Option<Type>, AllocError>
-    ensures { IfOk result (λ r. option_map type_of r ≡ (if is_string_type (type_of u.now) && is_known then tag_type (setting_of S.schema S.table world.now) (type_of t.now) else None)) }
+    ensures { IfOk result (GivesType (if is_string_type (type_of u.now) && is_known then tag_type (setting_of S.schema S.table world.now) (type_of t.now) else None)) }
 {
     if is_string_type(u) && is_known {
         tag_type(alloc, world, t)
@@ -118,7 +119,7 @@ fn tags_of_all<S: TypingSchema>(
     world: &World<'_, S>,
     union: &EntityLUB,
 ) -> Result<Option<Type>, AllocError>
-    ensures { IfOk result (λ r. option_map type_of r ≡ option_and_then (reduce_to_join permissive) (all_given (tags_of (S.schema world.now.schema.now)) (members_of union.now))) }
+    ensures { IfOk result (GivesType (option_and_then (reduce_to_join permissive) (all_given (tags_of (S.schema world.now.schema.now)) (members_of union.now)))) }
 {
     let mut joined = Type::Never;
     for ty in union.iter() {

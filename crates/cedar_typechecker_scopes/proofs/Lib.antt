@@ -1,3 +1,4 @@
 pub mod Checked
 pub mod Loops
+mod Unlinked
 pub mod Warned

@@ -5,7 +5,8 @@ use Rattle.std.specs.List.{list_any}
 use Rattle.cedar_expr_model.specs.Name.{Text, Name, name_eq}
 use Rattle.cedar_expr_model.specs.Uid.{Uid, uid_eq}
 use Rattle.cedar_expr_names.specs.declared.loc.Loc.{Loc}
-use Rattle.cedar_store_model.specs.Policy.{Target, named, own_slot, Scope, any, exactly, inside, of_kind, of_kind_inside, ActionScope, any_action, exactly_action, inside_actions}
+use Rattle.cedar_store_model.specs.Policy.{Policy, Target, named, own_slot, Scope, any, exactly, inside, of_kind, of_kind_inside, ActionScope, any_action, exactly_action, inside_actions}
+use Rattle.cedar_store_parts.specs.Parts.{filled}
 use Rattle.cedar_store_parts.specs.Views.{WarningSeen, fits_no_action}
 use Rattle.cedar_schema_model.specs.Schema.{Schema}
 use Rattle.cedar_schema_model.specs.Descent.{type_descends, action_descends}
@@ -42,6 +43,13 @@ pub record Asked : Type 0 where
   pub principal : Scope
   pub action : ActionScope
   pub resource : Scope
+
+-- what the scope of a policy asks for, and with what its slots are bound to in their place
+abbrev pub asked_in : Policy → Asked
+asked_in p = record { principal = p.principal; action = p.action; resource = p.resource }
+
+abbrev pub asked_linked : Policy → Asked
+asked_linked p = record { principal = filled p.bindings.principal p.principal; action = p.action; resource = filled p.bindings.resource p.resource }
 
 -- whether the action, the type of the principal, or that of the resource of an environment are what is asked for
 abbrev pub action_fits : Schema → Asked → Environment → Bool

@@ -1,8 +1,10 @@
 -- What the scope passes report: for each expression, in order, what it names that isn't declared.
 -- Rule: the scope rules (docs/RULES.md).
-use Rattle.std.specs.Prelude.{List, [], ◌∷◌, ◌++◌, map, Bool, Option, if◌then◌else◌}
+use Rattle.std.specs.Prelude.{List, [], ◌∷◌, ◌++◌, map, Bool, Option, if◌then◌else◌, ◌≡◌}
 use Rattle.std.specs.List.{flat_map}
 use Rattle.std.specs.Option.{option_map_or}
+use Rattle.std.specs.declared.alloc.Global.{Global}
+use Rattle.std.specs.declared.vec.Vec.{Vec}
 use Rattle.cedar_expr_model.specs.Name.{Text, Name}
 use Rattle.cedar_expr_model.specs.Uid.{Uid}
 use Rattle.cedar_expr_model.specs.Value.{Literal, entity}
@@ -68,3 +70,14 @@ wrong_bound s b = option_map_or (wrong_by s) b.principal [] ++ option_map_or (wr
 -- what is wrong, of this policy
 abbrev pub blamed : Text → List Wrong → List Blame
 blamed id ws = map (blame id) ws
+
+-- The errors report this of the policy of this id, and this is appended to them.
+abbrev pub Reports : Text → List Wrong → Vec ValidationError Global → Type 0
+Reports id ws es = map blame_of es.items ≡ blamed id ws
+
+abbrev pub AddsReport : Text → List Wrong → Vec ValidationError Global → Vec ValidationError Global → Type 0
+AddsReport id ws old new = map blame_of new.items ≡ map blame_of old.items ++ blamed id ws
+
+-- what is wrong with the scope and the body of the policy by the rule
+abbrev pub ReportsRule : Schema → ScopeRule → Policy → Vec ValidationError Global → Type 0
+ReportsRule s r p es = Reports p.id (wrong_within s r p) es

@@ -4,3 +4,5 @@ pub mod Rules
 pub mod Applying
 pub mod Asking
 pub mod Laws
+pub mod Warned
+pub mod Environments

@@ -4,13 +4,12 @@ ghost use Rattle.std.specs.Prelude.{◌≡◌, ◌∷◌, [], map, IfOk};
 ghost use Rattle.std.specs.List.{list_any};
 ghost use Rattle.cedar_expr_names.specs.Views.{type_name_of, uid_of};
 ghost use Rattle.cedar_store_model.specs.Policy.{exactly};
-ghost use Rattle.cedar_store_parts.specs.Parts.{id_text, target_of, scope_of, action_scope_of, filled};
-ghost use Rattle.cedar_store_policies.specs.Policies.{policy_of, policy_loc};
-ghost use Rattle.cedar_store_policies.specs.Templates.{template_of, template_loc};
+ghost use Rattle.cedar_store_parts.specs.Parts.{id_text, target_of, scope_of, action_scope_of};
 ghost use Rattle.cedar_store_parts.specs.Views.{fits_no_action, warning_of};
 ghost use Rattle.cedar_typechecker_environments.specs.Settings.{environment_of};
 ghost use Rattle.cedar_typechecker_scopes.specs.Applying.{may_be_inside, may_meet, is_or_descends, action_meets, fits, would_mend, application_warnings};
 ghost use Rattle.cedar_typechecker_scopes.specs.Asking.{asked_of, part_asked, takes, perhaps_mended};
+ghost use Rattle.cedar_typechecker_scopes.specs.Warned.{WarnsOfTemplate, WarnsOfPolicy, takes_part};
 
 use crate::schema::ScopeSchema;
 use cedar_expr_names::{EntityType, EntityUID, Loc};
@@ -37,7 +36,7 @@ pub fn validate_template_action_application<S: ScopeSchema>(
     schema: &S,
     template: &Template,
 ) -> Result<Vec<ValidationWarning>, AllocError>
-    ensures { IfOk result (λ ws. map warning_of ws.items ≡ application_warnings (S.schema schema.now) (template_of template.now).id (template_loc template.now) (record { principal = (template_of template.now).principal; action = (template_of template.now).action; resource = (template_of template.now).resource })) }
+    ensures { IfOk result (WarnsOfTemplate (S.schema schema.now) template.now) }
 {
     let asked = Asked {
         principal: &template.principal_constraint().constraint,
@@ -54,11 +53,7 @@ pub fn validate_linked_action_application<S: ScopeSchema>(
     schema: &S,
     policy: &Policy,
 ) -> Result<Vec<ValidationWarning>, AllocError>
-    ensures { IfOk result (λ ws. map warning_of ws.items ≡ application_warnings (S.schema schema.now) (policy_of policy.now).id (policy_loc policy.now) (record {
-      principal = filled (policy_of policy.now).bindings.principal (policy_of policy.now).principal;
-      action = (policy_of policy.now).action;
-      resource = filled (policy_of policy.now).bindings.resource (policy_of policy.now).resource;
-    })) }
+    ensures { IfOk result (WarnsOfPolicy (S.schema schema.now) policy.now) }
 {
     let principal = policy.principal_constraint()?;
     let resource = policy.resource_constraint()?;
@@ -162,7 +157,7 @@ fn takes_one<S: ScopeSchema>(
     mended: bool,
     envs: &[RequestEnv],
 ) -> bool
-    ensures { result ≡ list_any (takes (S.schema schema.now) (asked_of asked.entry) part (perhaps_mended mended (part_asked (asked_of asked.entry) part))) (map environment_of envs.now) }
+    ensures { result ≡ list_any (takes_part (S.schema schema.now) (asked_of asked.entry) part mended) (map environment_of envs.now) }
 {
     for env in envs {
         if takes(schema, asked, part, mended, env) {
@@ -180,7 +175,7 @@ fn takes<S: ScopeSchema>(
     mended: bool,
     env: &RequestEnv,
 ) -> bool
-    ensures { result ≡ takes (S.schema schema.now) (asked_of asked.entry) part (perhaps_mended mended (part_asked (asked_of asked.entry) part)) (environment_of env.now) }
+    ensures { result ≡ takes_part (S.schema schema.now) (asked_of asked.entry) part mended (environment_of env.now) }
 {
     action_meets(schema, asked.action, &env.action)
         && match part {

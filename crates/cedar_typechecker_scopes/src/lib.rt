@@ -12,7 +12,9 @@ mod slot_use;
 mod uids;
 
 pub use applying::{validate_linked_action_application, validate_template_action_application};
-pub use environments::{SchemaEnvironments, policy_environments};
+pub use environments::{
+    PolicyEnvironments, SchemaEnvironments, policy_environments, policy_environments_by,
+};
 pub use passes::{
     validate_action_ids, validate_entity_types, validate_entity_types_in_slots,
     validate_enum_entity,

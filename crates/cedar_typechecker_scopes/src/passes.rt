@@ -1,10 +1,10 @@
 //! The passes of the scope rules.
 
-ghost use Rattle.std.specs.Prelude.{◌≡◌, ◌++◌, map, IfOk, OnOk};
+ghost use Rattle.std.specs.Prelude.{IfOk, OnOk};
 ghost use Rattle.cedar_expr_names.specs.Views.{uid_of};
 ghost use Rattle.cedar_store_parts.specs.Parts.{id_text, bindings_of};
 ghost use Rattle.cedar_store_policies.specs.Templates.{template_of};
-ghost use Rattle.cedar_typechecker_scopes.specs.Faults.{known_types, known_actions, known_members, wrong_within, wrong_by, wrong_bound, blamed, blame_of};
+ghost use Rattle.cedar_typechecker_scopes.specs.Faults.{known_types, known_actions, known_members, wrong_within, wrong_by, wrong_bound, Reports, AddsReport, ReportsRule};
 ghost use Rattle.cedar_typechecker_scopes.specs.Rules.{rule_of};
 
 use crate::schema::ScopeSchema;
@@ -21,7 +21,7 @@ pub fn validate_enum_entity<S: ScopeSchema>(
     schema: &S,
     template: &Template,
 ) -> Result<Vec<ValidationError>, AllocError>
-    ensures { IfOk result (λ es. map blame_of es.items ≡ blamed (template_of template.now).id (wrong_within (S.schema schema.now) known_members (template_of template.now))) }
+    ensures { IfOk result (ReportsRule (S.schema schema.now) known_members (template_of template.now)) }
 {
     wrong_within(alloc, schema, ScopeRule::KnownMembers, template)
 }
@@ -33,7 +33,7 @@ pub fn validate_entity_types<S: ScopeSchema>(
     schema: &S,
     template: &Template,
 ) -> Result<Vec<ValidationError>, AllocError>
-    ensures { IfOk result (λ es. map blame_of es.items ≡ blamed (template_of template.now).id (wrong_within (S.schema schema.now) known_types (template_of template.now))) }
+    ensures { IfOk result (ReportsRule (S.schema schema.now) known_types (template_of template.now)) }
 {
     wrong_within(alloc, schema, ScopeRule::KnownTypes, template)
 }
@@ -44,7 +44,7 @@ pub fn validate_action_ids<S: ScopeSchema>(
     schema: &S,
     template: &Template,
 ) -> Result<Vec<ValidationError>, AllocError>
-    ensures { IfOk result (λ es. map blame_of es.items ≡ blamed (template_of template.now).id (wrong_within (S.schema schema.now) known_actions (template_of template.now))) }
+    ensures { IfOk result (ReportsRule (S.schema schema.now) known_actions (template_of template.now)) }
 {
     wrong_within(alloc, schema, ScopeRule::KnownActions, template)
 }
@@ -57,7 +57,7 @@ pub fn validate_entity_types_in_slots<S: ScopeSchema>(
     policy_id: &PolicyID,
     slots: &SlotEnv,
 ) -> Result<Vec<ValidationError>, AllocError>
-    ensures { IfOk result (λ es. map blame_of es.items ≡ blamed (id_text policy_id.now) (wrong_bound (S.schema schema.now) (bindings_of slots.now))) }
+    ensures { IfOk result (Reports (id_text policy_id.now) (wrong_bound (S.schema schema.now) (bindings_of slots.now))) }
 {
     let mut found = Vec::new(alloc);
     if let Some(uid) = slots.get(SlotId::principal()) {
@@ -76,7 +76,7 @@ fn wrong_within<S: ScopeSchema>(
     rule: ScopeRule,
     template: &Template,
 ) -> Result<Vec<ValidationError>, AllocError>
-    ensures { IfOk result (λ es. map blame_of es.items ≡ blamed (template_of template.now).id (wrong_within (S.schema schema.now) (rule_of rule) (template_of template.now))) }
+    ensures { IfOk result (ReportsRule (S.schema schema.now) (rule_of rule) (template_of template.now)) }
 {
     let mut found = Vec::new(alloc);
     for expr in template.condition().subexpressions(alloc)? {
@@ -85,14 +85,14 @@ fn wrong_within<S: ScopeSchema>(
     Ok(found)
 }
 
-// Puts what the three rules say of the uid behind what was found.
+// Appends what the three rules say of the uid to what was found.
 fn add_bound<S: ScopeSchema>(
     schema: &S,
     policy_id: &PolicyID,
     found: &mut Vec<ValidationError>,
     uid: &EntityUID,
 ) -> Result<(), AllocError>
-    ensures { OnOk result (map blame_of found.new.items ≡ map blame_of found.old.items ++ blamed (id_text policy_id.now) (wrong_by (S.schema schema.now) (uid_of uid.now))) }
+    ensures { OnOk result (AddsReport (id_text policy_id.now) (wrong_by (S.schema schema.now) (uid_of uid.now)) found.old found.new) }
 {
     add_uid(schema, ScopeRule::KnownTypes, policy_id, found, uid)?;
     add_uid(schema, ScopeRule::KnownActions, policy_id, found, uid)?;

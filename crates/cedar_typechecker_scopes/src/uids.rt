@@ -1,12 +1,12 @@
 //! What is wrong with entity types and uids.
 
-ghost use Rattle.std.specs.Prelude.{◌≡◌, ◌++◌, ◌∷◌, [], map, OnOk};
+ghost use Rattle.std.specs.Prelude.{◌∷◌, [], OnOk};
 ghost use Rattle.cedar_expr_names.specs.Views.{type_name_of, uid_of};
 ghost use Rattle.cedar_expr_leaves.specs.Literals.{literal_of};
 ghost use Rattle.cedar_expr_trees.specs.Trees.{tree_of};
 ghost use Rattle.cedar_store_parts.specs.Parts.{id_text};
 ghost use Rattle.cedar_store_parts.specs.Views.{wrong_of};
-ghost use Rattle.cedar_typechecker_scopes.specs.Faults.{known_types, known_actions, known_members, wrong_type, wrong_uid, wrong_literal, wrong_here, blame, blamed, blame_of};
+ghost use Rattle.cedar_typechecker_scopes.specs.Faults.{known_types, known_actions, known_members, wrong_type, wrong_uid, wrong_literal, wrong_here, AddsReport};
 ghost use Rattle.cedar_typechecker_scopes.specs.Rules.{rule_of};
 
 use crate::schema::ScopeSchema;
@@ -27,7 +27,7 @@ pub(crate) enum ScopeRule {
     KnownMembers,
 }
 
-// Puts what is wrong with the expression itself behind what was found.
+// Appends what is wrong with the expression itself to what was found.
 pub(crate) fn add_expr<S: ScopeSchema>(
     schema: &S,
     rule: ScopeRule,
@@ -35,7 +35,7 @@ pub(crate) fn add_expr<S: ScopeSchema>(
     found: &mut Vec<ValidationError>,
     expr: &Expr,
 ) -> Result<(), AllocError>
-    ensures { OnOk result (map blame_of found.new.items ≡ map blame_of found.old.items ++ blamed (id_text policy_id.now) (wrong_here (S.schema schema.now) (rule_of rule) (tree_of expr.now))) }
+    ensures { OnOk result (AddsReport (id_text policy_id.now) (wrong_here (S.schema schema.now) (rule_of rule) (tree_of expr.now)) found.old found.new) }
 {
     match expr.expr_kind() {
         ExprKind::Lit(literal) => add_literal(schema, rule, policy_id, found, literal),
@@ -49,7 +49,7 @@ pub(crate) fn add_expr<S: ScopeSchema>(
     }
 }
 
-// Puts what is wrong with a literal, if it is a uid, behind what was found.
+// Appends what is wrong with a literal, if it is a uid, to what was found.
 fn add_literal<S: ScopeSchema>(
     schema: &S,
     rule: ScopeRule,
@@ -57,7 +57,7 @@ fn add_literal<S: ScopeSchema>(
     found: &mut Vec<ValidationError>,
     literal: &Literal,
 ) -> Result<(), AllocError>
-    ensures { OnOk result (map blame_of found.new.items ≡ map blame_of found.old.items ++ blamed (id_text policy_id.now) (wrong_literal (S.schema schema.now) (rule_of rule) (literal_of literal.now))) }
+    ensures { OnOk result (AddsReport (id_text policy_id.now) (wrong_literal (S.schema schema.now) (rule_of rule) (literal_of literal.now)) found.old found.new) }
 {
     match literal {
         Literal::EntityUID(uid) => add_uid(schema, rule, policy_id, found, uid),
@@ -65,7 +65,7 @@ fn add_literal<S: ScopeSchema>(
     }
 }
 
-// Puts what is wrong with the entity type by the rule behind what was found.
+// Appends what is wrong with the entity type by the rule to what was found.
 fn add_type<S: ScopeSchema>(
     schema: &S,
     rule: ScopeRule,
@@ -73,7 +73,7 @@ fn add_type<S: ScopeSchema>(
     found: &mut Vec<ValidationError>,
     ty: &EntityType,
 ) -> Result<(), AllocError>
-    ensures { OnOk result (map blame_of found.new.items ≡ map blame_of found.old.items ++ blamed (id_text policy_id.now) (wrong_type (S.schema schema.now) (rule_of rule) (type_name_of ty.now))) }
+    ensures { OnOk result (AddsReport (id_text policy_id.now) (wrong_type (S.schema schema.now) (rule_of rule) (type_name_of ty.now)) found.old found.new) }
 {
     match rule {
         ScopeRule::KnownTypes => add_unknown_type(schema, policy_id, found, ty),
@@ -81,7 +81,7 @@ fn add_type<S: ScopeSchema>(
     }
 }
 
-// Puts what is wrong with the uid by the rule behind what was found.
+// Appends what is wrong with the uid by the rule to what was found.
 pub(crate) fn add_uid<S: ScopeSchema>(
     schema: &S,
     rule: ScopeRule,
@@ -89,7 +89,7 @@ pub(crate) fn add_uid<S: ScopeSchema>(
     found: &mut Vec<ValidationError>,
     uid: &EntityUID,
 ) -> Result<(), AllocError>
-    ensures { OnOk result (map blame_of found.new.items ≡ map blame_of found.old.items ++ blamed (id_text policy_id.now) (wrong_uid (S.schema schema.now) (rule_of rule) (uid_of uid.now))) }
+    ensures { OnOk result (AddsReport (id_text policy_id.now) (wrong_uid (S.schema schema.now) (rule_of rule) (uid_of uid.now)) found.old found.new) }
 {
     match rule {
         ScopeRule::KnownTypes => add_unknown_type(schema, policy_id, found, uid.entity_type()),
@@ -105,7 +105,7 @@ fn add_unknown_type<S: ScopeSchema>(
     found: &mut Vec<ValidationError>,
     ty: &EntityType,
 ) -> Result<(), AllocError>
-    ensures { OnOk result (map blame_of found.new.items ≡ map blame_of found.old.items ++ blamed (id_text policy_id.now) (wrong_type (S.schema schema.now) known_types (type_name_of ty.now))) }
+    ensures { OnOk result (AddsReport (id_text policy_id.now) (wrong_type (S.schema schema.now) known_types (type_name_of ty.now)) found.old found.new) }
 {
     if schema.declares_type(ty) || schema.is_action_type(ty) {
         Ok(())
@@ -122,7 +122,7 @@ fn add_unknown_action<S: ScopeSchema>(
     found: &mut Vec<ValidationError>,
     uid: &EntityUID,
 ) -> Result<(), AllocError>
-    ensures { OnOk result (map blame_of found.new.items ≡ map blame_of found.old.items ++ blamed (id_text policy_id.now) (wrong_uid (S.schema schema.now) known_actions (uid_of uid.now))) }
+    ensures { OnOk result (AddsReport (id_text policy_id.now) (wrong_uid (S.schema schema.now) known_actions (uid_of uid.now)) found.old found.new) }
 {
     if !schema.is_action_type(uid.entity_type()) || schema.declares_action(uid) {
         Ok(())
@@ -139,7 +139,7 @@ fn add_unknown_member<S: ScopeSchema>(
     found: &mut Vec<ValidationError>,
     uid: &EntityUID,
 ) -> Result<(), AllocError>
-    ensures { OnOk result (map blame_of found.new.items ≡ map blame_of found.old.items ++ blamed (id_text policy_id.now) (wrong_uid (S.schema schema.now) known_members (uid_of uid.now))) }
+    ensures { OnOk result (AddsReport (id_text policy_id.now) (wrong_uid (S.schema schema.now) known_members (uid_of uid.now)) found.old found.new) }
 {
     if schema.is_no_unknown_member(uid) {
         Ok(())
@@ -156,7 +156,7 @@ fn add(
     source_loc: Option<Loc>,
     kind: ValidationErrorKind,
 ) -> Result<(), AllocError>
-    ensures { OnOk result (map blame_of found.new.items ≡ map blame_of found.old.items ++ blame (id_text policy_id.now) (wrong_of kind) ∷ []) }
+    ensures { OnOk result (AddsReport (id_text policy_id.now) (wrong_of kind ∷ []) found.old found.new) }
 {
     let policy_id = policy_id.clone()?;
     found.push(ValidationError {

@@ -18,7 +18,7 @@ use Rattle.cedar_store_model.specs.Store.{found_as, if_uid, unloaded, whole}
 use Rattle.cedar_schema_model.specs.Schema.{declares_action}
 use Rattle.cedar_schema_model.specs.ActionEntities.{as_entity}
 use Rattle.cedar_evaluator_model.specs.Scope.{Entry, uid, unknown_uid, Context, closed, residual_fields, unknown_context, value_left}
-use Rattle.cedar_gate_model.specs.Slice.{IsNear, InSlice}
+use Rattle.cedar_typechecker_model.specs.Slice.{IsNear, InSlice}
 use Rattle.cedar_evaluator_model.specs.Response.{PartialRequest}
 use Rattle.cedar_expr_model.specs.Lists.{when}
 use Rattle.cedar_gate_model.specs.Moment.{EntryCompleted, ContextCompleted, Moment, at_first, entry_known, context_known, known_at}
@@ -30,7 +30,7 @@ use Rattle.cedar_gate_model.specs.RunLaws.{HasNoResidual, bindings_in, last_stat
 use Rattle.cedar_gate_model.proofs.Gate.Slices.{near_kept, same_root}
 use Rattle.cedar_gate_model.proofs.Gate.Transcripts.{slice_is_asked}
 use Rattle.cedar_gate_model.proofs.Gate.AlikeRuns.{opened_or_not}
-use Rattle.cedar_gate_model.proofs.Gate.Mentions.{FoundMentions}
+use Rattle.cedar_typechecker_model.proofs.Mentions.{FoundMentions}
 use Rattle.cedar_evaluator_model.specs.Known.{known_entry, known_context}
 use Rattle.cedar_evaluator_model.specs.Reauthorize.{context_from}
 use Rattle.std.specs.Map.{lookup}

@@ -5,7 +5,8 @@ use Rattle.cedar_store_model.specs.Answer.{Answer}
 use Rattle.cedar_gate_model.specs.Transcript.{Entry}
 use Rattle.cedar_gate_model.specs.GateLaws.{admits}
 use Rattle.cedar_gate_model.specs.Acceptance.{IsAccepted, number_of}
-use Rattle.cedar_gate_model.specs.Bundle.{Functions, Bundle}
+use Rattle.cedar_evaluator_model.specs.Functions.{Functions}
+use Rattle.cedar_gate_model.specs.Bundle.{Bundle}
 use Rattle.cedar_gate_model.specs.Runs.{End, DecidesInPart, answered, opening_refused, supply_refused, binding_refused, answer_refused}
 use Rattle.cedar_gate_model.specs.Lines.{Status, is_answered, is_refused, is_unreadable, is_stopped, end_status, refused_line, unreadable_line, run_lines, setup_of, PrintsRun, Prints}
 use Rattle.cedar_gate_model.specs.RunLaws.{EntriesAlike, EndsAlike}

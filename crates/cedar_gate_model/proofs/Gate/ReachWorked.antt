@@ -18,8 +18,9 @@ use Rattle.cedar_schema_model.proofs.Decls.Environments.{declares_action-Decides
 use Rattle.cedar_typechecker_model.specs.Worked.{view, owner, no_table}
 use Rattle.cedar_gate_model.specs.Acceptance.{IsAccepted, schema_in}
 use Rattle.cedar_gate_model.specs.Moment.{request_of}
-use Rattle.cedar_gate_model.specs.Slice.{slice}
-use Rattle.cedar_gate_model.specs.SliceSoundness.{SliceConforms, IsFitFor}
+use Rattle.cedar_typechecker_model.specs.Slice.{slice}
+use Rattle.cedar_typechecker_model.specs.Reach.{SliceConforms}
+use Rattle.cedar_gate_model.specs.SliceSoundness.{IsFitFor}
 use Rattle.cedar_gate_model.specs.WorkedGate.{user_b, p0, level_two, three_and_z, viewed_by_a}
 use Rattle.cedar_gate_model.proofs.Gate.Accepting.{admitted_accepted}
 use Rattle.cedar_gate_model.proofs.Gate.Slices.{slice_is_listed}

@@ -15,7 +15,7 @@ use Rattle.cedar_schema_model.proofs.Decls.Conforming.{entity_conforms-Decides, 
 use Rattle.cedar_schema_model.proofs.Decls.Descent.{either_holds}
 use Rattle.cedar_typechecker_model.specs.Worked.{user_a, doc_d}
 use Rattle.cedar_gate_model.specs.Moment.{request_of}
-use Rattle.cedar_gate_model.specs.Slice.{slice}
+use Rattle.cedar_typechecker_model.specs.Slice.{slice}
 use Rattle.cedar_gate_model.specs.Session as session
 use Rattle.cedar_gate_model.specs.Session.{Setup, State, at_start, known_now, world_now, IsWantedNow, NothingIsWanted, IsWantedList, HasOpenName, OpenRefusal, quote_in_name, name_of_variable, OpenFault, IsWrong, Supplied, SupplyRefusal, SupplyFault, not_wanted, lacking, wrong_entity, AnswerRefusal, AnswerFault, not_bound, still_wanted, not_conforming}
 use Rattle.cedar_gate_model.specs.Transcript.{round}

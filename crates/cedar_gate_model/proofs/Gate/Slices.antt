@@ -8,16 +8,17 @@ use Rattle.std.proofs.lemmas.Slice.Eq.{bytes_eq-Decides}
 use Rattle.cedar_expr_model.specs.Name.{Text}
 use Rattle.cedar_expr_model.specs.Uid.{Uid}
 use Rattle.cedar_expr_model.specs.Value.{V}
-use Rattle.cedar_expr_model.proofs.Lists.{contains_head, contains_tail, contains_cases, contains_none, filter_has, filter_only, map_has, flat_has, flat_from}
+use Rattle.cedar_expr_model.proofs.Lists.{contains_cases, contains_none, filter_has, filter_only, map_has, flat_has, flat_from}
 use Rattle.cedar_expr_model.specs.ValueParts.{Part, known, left}
 use Rattle.cedar_store_model.specs.World.{World, Entity, Found, held, missing, not_loaded}
 use Rattle.cedar_store_model.specs.OfLaws.Extends.{Keeps, KeepsPart, KeepsParts, KeepsFound, Extends}
 use Rattle.cedar_schema_model.specs.Schema.{Schema, declares_action}
 use Rattle.cedar_schema_model.specs.BagLaws.{HasTwice}
-use Rattle.cedar_gate_model.specs.Slice.{IsNear, InSlice, mentioned_by_parts, mentioned_by_found, roots, near, slice}
+use Rattle.cedar_typechecker_model.specs.Slice.{IsNear, InSlice, mentioned_by_parts, mentioned_by_found, roots, near, slice}
 use Rattle.cedar_gate_model.specs.GateLaws.{HasNamesOnce, HoldsNamesOnce, SameRoots}
 use Rattle.std.specs.Map.{lookup, keys_of}
-use Rattle.cedar_gate_model.proofs.Gate.Mentions.{PartMentions, PartsMention, FoundMentions, IsKnown, ContextMentions, IsRoot, mentioning, mentioned_there, root_cases, root_from}
+use Rattle.cedar_typechecker_model.proofs.Mentions.{PartMentions, PartsMention, FoundMentions, IsKnown, ContextMentions, IsRoot, mentioning, mentioned_there, root_cases, root_from}
+use Rattle.cedar_typechecker_model.proofs.InReach.{near_within, named_there}
 
 pub listed_near : (n : ℕ) (w : World) (u : Uid) → Contains (near n w) u → IsNear n w u
 listed_near zero w u h = contains_none u h
@@ -52,11 +53,6 @@ slice_is_listed s n w u = (
 pub slice_is_empty : (s : Schema) (w : World) (u : Uid) → InSlice s 0 w u → ⊥
 slice_is_empty s w u h = h.0
 
-pub near_within : (m n : ℕ) (w : World) (u : Uid) → m ≤ n → IsNear m w u → IsNear n w u
-near_within zero n w u l h = absurd h
-near_within (suc m) zero w u l h = omega (arith, l)
-near_within (suc m) (suc n) w u l h = ⊎_elim (λ k. inl k) (λ r. inr (r.0, near_within m n w r.0 (omega (arith, l)) r.1, r.2)) h
-
 pub slice_grows : (s : Schema) (m n : ℕ) (w : World) (u : Uid) → m ≤ n → InSlice s m w u → InSlice s n w u
 slice_grows s m n w u l h = (near_within m n w u l h.0, h.1)
 
@@ -80,14 +76,6 @@ named_once (q ∷ ps) p once k = contains_cases (lookup (bytes_eq p.0) (q ∷ ps
     later rest m false e = ap (λ t. cond t (Some q.1) (lookup (bytes_eq p.0) ps)) e ∙ rest (λ h. once (inr h)) m
 
 -- a part that is found under a name stands there
-pub named_there : (ps : List (Text × Part V)) (a : Text) (x : Part V) → lookup (bytes_eq a) ps ≡ Some x → (p : Text × Part V) × Contains ps p × (p.1 ≡ x)
-named_there [] a x e = cc
-named_there (q ∷ ps) a x e = go (named_there ps a x) (bytes_eq a q.0) e
-  where
-    go : (lookup (bytes_eq a) ps ≡ Some x → (p : Text × Part V) × Contains ps p × (p.1 ≡ x)) → (t : Bool) → cond t (Some q.1) (lookup (bytes_eq a) ps) ≡ Some x → (p : Text × Part V) × Contains (q ∷ ps) p × (p.1 ≡ x)
-    go rest true e = (q, contains_head q ps, cc)
-    go rest false e = let r = rest e in (r.0, contains_tail q ps r.0 r.1, r.2)
-
 part_kept : (qs : List (Text × Part V)) (a : Text) (x : Part V) (u : Uid) → KeepsPart (Some x) (lookup (bytes_eq a) qs) → PartMentions x u → PartsMention qs u
 part_kept qs a (known v) u k h = let r = named_there qs a (known v) k in mentioned_there qs r.0 u r.1 (subst (λ x. PartMentions x u) (sym r.2) h)
 part_kept qs a (left t) u k h = absurd (contains_none u h)

@@ -10,7 +10,7 @@ use Rattle.cedar_store_model.specs.World.{Entity}
 use Rattle.cedar_schema_model.specs.Conforming.{entity_conforms}
 use Rattle.cedar_schema_model.proofs.Decls.Conforming.{entity_conforms-Decides}
 use Rattle.cedar_typechecker_model.specs.Worked.{user_a, doc_d}
-use Rattle.cedar_gate_model.specs.Slice.{slice}
+use Rattle.cedar_typechecker_model.specs.Slice.{slice}
 use Rattle.std.specs.Map.{keys_of}
 use Rattle.cedar_gate_model.specs.Session.{at_start, known_now, IsWantedNow, IsWrong, SupplyFault, not_wanted, lacking, wrong_entity, repeated}
 use Rattle.cedar_gate_model.specs.WorkedGate.{user_b, user_z, person, document, ordinary, right_supply, with_z, only_d, twice_d, b_for_a, without_ok, lacks_ok}

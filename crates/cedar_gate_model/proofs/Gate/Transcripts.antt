@@ -8,14 +8,14 @@ use Rattle.cedar_expr_model.specs.Value.{V}
 use Rattle.cedar_expr_model.proofs.Lists.{contains_cases, contains_none}
 use Rattle.cedar_store_model.specs.World.{World}
 use Rattle.cedar_store_model.specs.Answer.{Decision, decision_of}
-use Rattle.cedar_gate_model.specs.Slice.{IsNear, InSlice}
+use Rattle.cedar_typechecker_model.specs.Slice.{IsNear, InSlice}
 use Rattle.cedar_expr_model.specs.Lists.{when}
 use Rattle.cedar_gate_model.specs.Moment.{Moment, at_first, entry_known, context_known, known_at}
 use Rattle.cedar_gate_model.specs.Transcript.{Entry, round, bound, decided, Case, after, IsWanted, IsLegalEntry, AreLegal}
 use Rattle.cedar_gate_model.specs.GateLaws.{KnowsRoots, moment_after, asked_in, rounds_after, last_rounds, AsksTheSlice}
 use Rattle.cedar_gate_model.proofs.Gate.Slices.{near_kept}
 use Rattle.cedar_gate_model.proofs.Runs.Loading.{Settled, near_of_loaded, round_is_below, settles_more, slice_is_loaded}
-use Rattle.cedar_gate_model.proofs.Gate.Mentions.{IsKnown, ContextMentions, IsRoot, root_cases, root_from}
+use Rattle.cedar_typechecker_model.proofs.Mentions.{IsKnown, ContextMentions, IsRoot, root_cases, root_from}
 
 -- what is known of the world of a transcript at a moment
 abbrev pub known : Case → World → Moment → World

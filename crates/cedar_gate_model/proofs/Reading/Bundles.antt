@@ -16,7 +16,8 @@ use Rattle.cedar_schema_model.specs.BagLaws.{HasTwice}
 use Rattle.cedar_schema_model.proofs.Decls.Faults.{repeated-Decides}
 use Rattle.cedar_gate_model.specs.Reading.{required, if_there, optional, has_only, each, list_of, each_member, count_read}
 use Rattle.cedar_gate_model.specs.Acceptance.{Submission}
-use Rattle.cedar_gate_model.specs.Bundle.{Functions, Bundle}
+use Rattle.cedar_evaluator_model.specs.Functions.{Functions}
+use Rattle.cedar_gate_model.specs.Bundle.{Bundle}
 use Rattle.cedar_gate_model.specs.ReadingForms.{if_passing, number_between}
 use Rattle.cedar_gate_model.specs.ReadingName.{uid_read}
 use Rattle.cedar_gate_model.specs.ReadingSchema.{schema_read}

@@ -23,11 +23,10 @@ use Rattle.cedar_schema_model.specs.ActionEntities.{as_entity}
 use Rattle.cedar_evaluator_model.specs.Known.{known_entry, known_context}
 use Rattle.cedar_evaluator_model.specs.Reauthorize.{context_from}
 use Rattle.cedar_evaluator_model.specs.Scope.{Entry, uid, unknown_uid, Context, closed, residual_fields, unknown_context, value_left}
-use Rattle.cedar_gate_model.specs.Bundle.{Functions}
-use Rattle.cedar_gate_model.specs.ReadingValue.{left_of_restricted}
+use Rattle.cedar_evaluator_model.specs.Functions.{Functions, left_of_restricted}
 use Rattle.cedar_gate_model.specs.Session.{Setup, State, at_start, value_of, uid_in, entry_now, context_now, whole_store, world_now, with_bound}
-use Rattle.cedar_gate_model.specs.Slice.{InSlice}
-use Rattle.cedar_gate_model.specs.SliceSoundness.{IsInReach}
+use Rattle.cedar_typechecker_model.specs.Slice.{InSlice}
+use Rattle.cedar_typechecker_model.specs.Reach.{IsInReach}
 use Rattle.cedar_gate_model.specs.Transcript as transcript
 use Rattle.cedar_gate_model.specs.Transcript.{Step, round, bound, decided}
 use Rattle.cedar_gate_model.specs.Runs.{answered, opening_refused, MayDecide, with_asked}

@@ -19,8 +19,9 @@ use Rattle.cedar_typechecker_model.specs.Soundness.{IsExpected, IsGood}
 use Rattle.cedar_schema_model.specs.Types.{any_bool, bool_type}
 use Rattle.cedar_gate_model.specs.Moment.{Completes}
 use Rattle.cedar_gate_model.specs.Session.{State, at_start, world_now, whole_store, OpenRefusal, OpenFault, AnswerRefusal, AnswerFault, IsWantedNow}
-use Rattle.cedar_gate_model.specs.Slice.{InSlice}
-use Rattle.cedar_gate_model.specs.SliceSoundness.{IsInReach, IsFitFor}
+use Rattle.cedar_typechecker_model.specs.Slice.{InSlice}
+use Rattle.cedar_typechecker_model.specs.Reach.{IsInReach}
+use Rattle.cedar_gate_model.specs.SliceSoundness.{IsFitFor}
 use Rattle.cedar_gate_model.specs.Transcript as transcript
 use Rattle.cedar_gate_model.specs.Transcript.{round, bound, decided}
 use Rattle.cedar_gate_model.specs.Runs.{answered, opening_refused, MayDecide}

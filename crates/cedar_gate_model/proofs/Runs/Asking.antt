@@ -10,7 +10,7 @@ use Rattle.cedar_expr_model.proofs.Lists.{contains_none}
 use Rattle.cedar_store_model.specs.Policy.{Policy}
 use Rattle.cedar_store_model.specs.Answer.{Decision, Answer}
 use Rattle.cedar_schema_model.specs.BagLaws.{HasTwice}
-use Rattle.cedar_gate_model.specs.Slice.{InSlice}
+use Rattle.cedar_typechecker_model.specs.Slice.{InSlice}
 use Rattle.cedar_gate_model.specs.Transcript.{Step, Entry, round, bound, decided, after}
 use Rattle.cedar_gate_model.specs.Moment.{Moment, at_first}
 use Rattle.cedar_gate_model.specs.Session.{Setup, State, at_start, value_of, world_now, IsWantedNow, with_bound}
@@ -19,7 +19,7 @@ use Rattle.cedar_gate_model.specs.GateLaws.{moment_after, asked_in, rounds_after
 use Rattle.cedar_gate_model.specs.RunLaws.{bindings_in, last_state}
 use Rattle.cedar_gate_model.specs.RunsAsk.{IsMadeContext, end_state}
 use Rattle.cedar_gate_model.proofs.Gate.Slices.{near_kept, known_kept, context_kept}
-use Rattle.cedar_gate_model.proofs.Gate.Mentions.{IsRoot, root_cases, root_from}
+use Rattle.cedar_typechecker_model.proofs.Mentions.{IsRoot, root_cases, root_from}
 use Rattle.cedar_gate_model.proofs.Gate.RisingUids.{rising_once, apart_once}
 use Rattle.cedar_gate_model.proofs.Runs.Loading.{Settled, near_of_loaded, round_is_below, settles_more, slice_is_loaded}
 use Rattle.cedar_gate_model.proofs.Runs.Did.{Did, run_did}

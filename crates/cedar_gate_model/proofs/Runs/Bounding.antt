@@ -47,16 +47,16 @@ use Rattle.cedar_evaluator_model.proofs.Residuals.Groups.{group_from, residual_o
 use Rattle.cedar_evaluator_model.proofs.Responses.{Same, SameVerdict, same_verdict, response_is_answer}
 use Rattle.cedar_evaluator_model.proofs.Settled.{settled_there}
 use Rattle.cedar_gate_model.specs.GateLaws.{Holds}
-use Rattle.cedar_gate_model.specs.ReadingValue.{with_functions}
+use Rattle.cedar_evaluator_model.specs.Functions.{with_functions}
 use Rattle.cedar_gate_model.specs.RunsAnswer.{Course, session_of, IsAdmitted, MakeFairly, IsOpened, IsKnownStore}
 use Rattle.cedar_gate_model.specs.RunsAsk.{IsMadeContext}
 use Rattle.cedar_gate_model.specs.Early.{bounds_now, HoldsLookups, BoundsInPart, KeepsBounds}
 use Rattle.cedar_gate_model.specs.Session.{Setup, State, value_of, uid_in, context_left, entry_now, context_now, scope_now, known_now, world_now, HasOpenName, entry_named, is_open_entry, is_open_context, ContextFails, CompletesNow}
 use Rattle.cedar_gate_model.proofs.Gate.Accepting.{accepted_good, acceptance_reads}
-use Rattle.cedar_gate_model.proofs.Reading.Values.{none_is}
+use Rattle.cedar_evaluator_model.proofs.Restricted.{none_is, substituted_restricted}
 use Rattle.cedar_gate_model.proofs.Runs.Closing.{IsShut, evaluated_shut, record_evaluated}
 use Rattle.cedar_gate_model.proofs.Runs.Completing.{Stands, taken_value, store_settled}
-use Rattle.cedar_gate_model.proofs.Runs.Contexts.{puts, substituted_restricted, bound_context, left_context, entry_value}
+use Rattle.cedar_gate_model.proofs.Runs.Contexts.{puts, bound_context, left_context, entry_value}
 use Rattle.cedar_gate_model.proofs.Runs.Deciding.{none_unknown, none_has_unknowns, leaves_nothing}
 use Rattle.cedar_gate_model.proofs.Runs.Forcing.{known_same, ready}
 use Rattle.cedar_gate_model.proofs.Runs.Legal.{some_unknown_of, calls_leave_nothing}

@@ -17,7 +17,7 @@ use Rattle.cedar_evaluator_model.specs.Steps.{errs, answer_left, called_left, ma
 use Rattle.cedar_evaluator_model.specs.Evaluation.{pieces_of, node, evaluated}
 use Rattle.cedar_evaluator_model.proofs.GivenReads.{length_bare}
 use Rattle.cedar_evaluator_model.proofs.Named.{call_of, field_names, field_trees, fields_named}
-use Rattle.cedar_gate_model.proofs.Reading.Values.{no_feature_split, feature_of, some_unknown, parts_of, listed_same, fields_same}
+use Rattle.cedar_evaluator_model.proofs.Restricted.{no_feature_split, feature_of, some_unknown, parts_of, listed_same, fields_same}
 use Rattle.cedar_gate_model.proofs.Runs.Contexts.{no_unknown_split}
 use Rattle.std.specs.Prelude.{zip}
 

@@ -39,7 +39,7 @@ use Rattle.cedar_evaluator_model.specs.OfLaws.Calls.{Agrees}
 use Rattle.cedar_evaluator_model.specs.OfLaws.WellMade.{IsWellMade, IsMadeWell}
 use Rattle.cedar_evaluator_model.proofs.Residuals.Slots.{substituted_outcome}
 use Rattle.cedar_gate_model.specs.Moment.{EntryCompleted, ContextCompleted, Completes, request_of}
-use Rattle.cedar_gate_model.specs.ReadingValue.{with_functions}
+use Rattle.cedar_evaluator_model.specs.Functions.{with_functions}
 use Rattle.cedar_gate_model.specs.Session.{Setup, State, at_start, IsWantedNow, value_of, uid_in, context_left, entry_now, context_now, whole_store, world_now, context_unknowns, variable_names, OpenRefusal, OpenFault, name_of_variable, entry_named, is_open_entry, is_open_context, IsOtherKind, IsNoRecord, with_bound, BindRefusal, BindFault, not_open, against_annotation, no_entity_or_record, SupplyRefusal, SupplyFault, wrong_entity, AnswerRefusal, AnswerFault, not_bound, not_conforming, MeansBound, CompletesNow}
 use Rattle.cedar_gate_model.specs.Transcript as transcript
 use Rattle.cedar_gate_model.specs.Transcript.{round, bound, decided}
@@ -47,10 +47,10 @@ use Rattle.cedar_gate_model.specs.Runs.{with_asked, supplied_by}
 use Rattle.cedar_gate_model.specs.RunLaws.{last_state}
 use Rattle.cedar_gate_model.specs.RunsAsk.{IsMadeContext}
 use Rattle.cedar_gate_model.specs.RunsAnswer.{with_unknowns}
-use Rattle.cedar_gate_model.specs.Slice.{InSlice}
+use Rattle.cedar_typechecker_model.specs.Slice.{InSlice}
 use Rattle.cedar_gate_model.proofs.Gate.Slices.{near_kept}
-use Rattle.cedar_gate_model.proofs.Reading.Values.{none_is}
-use Rattle.cedar_gate_model.proofs.Runs.Contexts.{was_open, binding_grows, entry_value, value_is_valued, substituted_restricted, bound_context, left_context}
+use Rattle.cedar_evaluator_model.proofs.Restricted.{none_is, substituted_restricted}
+use Rattle.cedar_gate_model.proofs.Runs.Contexts.{was_open, binding_grows, entry_value, value_is_valued, bound_context, left_context}
 use Rattle.cedar_gate_model.proofs.Runs.Did.{Did}
 use Rattle.cedar_gate_model.proofs.Runs.Loading.{slice_is_loaded}
 use Rattle.cedar_gate_model.proofs.Runs.Restricted.{value_is_meant}

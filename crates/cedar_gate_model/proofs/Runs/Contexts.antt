@@ -9,23 +9,21 @@ use Rattle.cedar_expr_model.specs.Name.{Text, Name}
 use Rattle.cedar_expr_model.specs.Uid.{Uid}
 use Rattle.cedar_expr_model.specs.Tree.{CoreType, Tree, lit, unknown, call, set_literal, record_literal, Trees, no_trees, tree, TreeFields, no_tree_fields, tree_field}
 use Rattle.cedar_expr_model.specs.Builder.{Builder, built, built_list, built_fields, tree_builder, trees, tree_fields}
-use Rattle.cedar_expr_model.specs.Made.{Made, written}
+use Rattle.cedar_expr_model.specs.Made.{Made}
 use Rattle.cedar_expr_model.specs.Parts.{subexpressions, subexpressions_among, subexpressions_in_fields, unknown_here}
-use Rattle.cedar_expr_model.specs.Restricted.{is_restricted, offence, feature_here}
+use Rattle.cedar_expr_model.specs.Restricted.{is_restricted, offence}
 use Rattle.cedar_expr_model.specs.Substitution.{Bindings, substituted}
 use Rattle.cedar_expr_model.specs.Unknowns.{has_unknown, EachUnknown}
 use Rattle.cedar_store_model.specs.OfLaws.Extends.{Keeps}
 use Rattle.cedar_evaluator_model.specs.Known.{known_entry, known_context}
 use Rattle.cedar_evaluator_model.specs.Reauthorize.{context_from}
 use Rattle.cedar_evaluator_model.specs.Scope.{Entry, uid, unknown_uid, Context, closed, residual_fields, unknown_context, Left, value_left, residual, stopped}
-use Rattle.cedar_gate_model.specs.Bundle.{Functions}
-use Rattle.cedar_gate_model.specs.ReadingValue.{left_of_restricted}
+use Rattle.cedar_evaluator_model.specs.Functions.{Functions, left_of_restricted}
 use Rattle.cedar_gate_model.specs.Session.{Setup, State, value_of, uid_in, context_left, entry_now, context_now, is_open_name, is_open_entry, entry_named, is_open_context, with_bound, BindRefusal, BindFault, not_open}
 use Rattle.cedar_gate_model.specs.RunsAsk.{IsMadeContext}
-use Rattle.cedar_gate_model.proofs.Reading.Values.{Clean, evaluated_clean, none_is, no_feature_split, feature_of, some_unknown}
-use Rattle.cedar_expr_model.proofs.Gathering.{EachIn, EachAmong, EachInFields, each_in, found_none_join}
-use Rattle.cedar_expr_model.proofs.Building.{builder_with, built_stays, written_built}
-use Rattle.cedar_expr_model.proofs.Restricting.{written_restricted}
+use Rattle.cedar_evaluator_model.proofs.Restricted.{Clean, evaluated_clean, none_is, no_feature_split, feature_of, some_unknown, substituted_restricted}
+use Rattle.cedar_expr_model.proofs.Gathering.{EachIn, EachAmong, EachInFields, each_in}
+use Rattle.cedar_expr_model.proofs.Building.{builder_with}
 use Rattle.cedar_expr_model.proofs.Substituting.{bound_or, placed, makes_same}
 
 -- Each value of the first stands in the second.
@@ -92,32 +90,6 @@ module _ (env : Bindings) where
         let p = no_feature_split (subexpressions t) (subexpressions_in_fields fs) r in
         let q = no_unknown_split (subexpressions (built puts t)) (subexpressions_in_fields (tree_fields (built_fields puts fs))) e in
         (all_valued t p.0 q.0, all_valued_fields fs p.1 q.1)
-
-  -- what is put in the place of unknowns has no feature that restricted expressions lack
-  placed_restricted : (n : Text) (a : Option CoreType) (o : Option Made) → offence (bound_or tree_builder n a o) ≡ None
-  placed_restricted n a None = refl
-  placed_restricted n a (Some m) = ap offence (built_stays (written m) (written_built m)) ∙ written_restricted m
-
-  mutual
-    pub substituted_restricted : (t : Tree) → offence t ≡ None → offence (substituted env t) ≡ None
-    substituted_restricted (lit p) r = refl
-    substituted_restricted (unknown n a) r = placed_restricted n a (env n)
-    substituted_restricted (call f ts) r = restricted_among ts r
-    substituted_restricted (set_literal ts) r = restricted_among ts r
-    substituted_restricted (record_literal fs) r = restricted_fields fs r
-    substituted_restricted t r = cc
-
-    restricted_among : (ts : Trees) → feature_of (subexpressions_among ts) ≡ None → feature_of (subexpressions_among (trees (built_list puts ts))) ≡ None
-    restricted_among no_trees r = refl
-    restricted_among (tree t ts) r =
-        let p = no_feature_split (subexpressions t) (subexpressions_among ts) r in
-        found_none_join feature_here (subexpressions (built puts t)) (subexpressions_among (trees (built_list puts ts))) (substituted_restricted t p.0) (restricted_among ts p.1)
-
-    restricted_fields : (fs : TreeFields) → feature_of (subexpressions_in_fields fs) ≡ None → feature_of (subexpressions_in_fields (tree_fields (built_fields puts fs))) ≡ None
-    restricted_fields no_tree_fields r = refl
-    restricted_fields (tree_field a t fs) r =
-        let p = no_feature_split (subexpressions t) (subexpressions_in_fields fs) r in
-        found_none_join feature_here (subexpressions (built puts t)) (subexpressions_in_fields (tree_fields (built_fields puts fs))) (substituted_restricted t p.0) (restricted_fields fs p.1)
 
   -- then more values change nothing
   more_is_same : (f : Bindings) → Grows env f → (t : Tree) → EachUnknown HasValue t → substituted f t ≡ substituted env t

@@ -32,21 +32,21 @@ use Rattle.cedar_evaluator_model.specs.OfLaws.WellMade.{IsWellMade, IsMadeWell}
 use Rattle.cedar_evaluator_model.proofs.Residuals.Slots.{substituted_outcome}
 use Rattle.cedar_gate_model.specs.GateLaws.{SameRoots}
 use Rattle.cedar_gate_model.specs.Moment.{ContextCompleted, at_first, context_known, is_bound}
-use Rattle.cedar_gate_model.specs.ReadingValue.{with_functions}
+use Rattle.cedar_evaluator_model.specs.Functions.{with_functions}
 use Rattle.cedar_gate_model.specs.RunLaws.{bindings_in, last_state, case_of}
 use Rattle.cedar_gate_model.specs.Runs.{End, MayDecide, IsRoundNow, with_asked}
 use Rattle.cedar_gate_model.specs.RunsAnswer.{Course, session_of, IsAdmitted, IsProper, MayRun}
 use Rattle.cedar_gate_model.specs.RunsAsk.{IsMadeContext, end_state}
 use Rattle.cedar_gate_model.specs.Session.{Setup, State, at_start, value_of, context_left, context_now, known_now, ContextFails, context_fails, with_bound, CompletesNow}
-use Rattle.cedar_gate_model.specs.Slice.{InSlice}
+use Rattle.cedar_typechecker_model.specs.Slice.{InSlice}
 use Rattle.cedar_gate_model.specs.Transcript as transcript
 use Rattle.cedar_gate_model.specs.Transcript.{round, bound, decided, IsRound, AreLegal}
 use Rattle.cedar_gate_model.proofs.Gate.LegalRuns as before
 use Rattle.cedar_gate_model.proofs.Gate.LegalRuns.{moment_of, seen, BoundOrOpen, bound_or_open, store_same, near_same, decision_is_legal, completes_before}
-use Rattle.cedar_gate_model.proofs.Reading.Values.{none_is}
+use Rattle.cedar_evaluator_model.proofs.Restricted.{none_is, substituted_restricted}
 use Rattle.cedar_gate_model.proofs.Runs.Closing.{IsShut, evaluated_shut, record_evaluated}
 use Rattle.cedar_gate_model.proofs.Runs.Completing.{Stands, stands_at_start, asked_more, bound_more, taken_value}
-use Rattle.cedar_gate_model.proofs.Runs.Contexts.{puts, value_is_valued, substituted_restricted, left_context, residual_unknown}
+use Rattle.cedar_gate_model.proofs.Runs.Contexts.{puts, value_is_valued, left_context, residual_unknown}
 use Rattle.cedar_gate_model.proofs.Runs.Deciding.{leaves_nothing}
 use Rattle.cedar_gate_model.proofs.Runs.Did.{Did, run_did}
 use Rattle.cedar_gate_model.proofs.Runs.Restricted.{value_is_meant}

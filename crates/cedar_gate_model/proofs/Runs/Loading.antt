@@ -12,9 +12,10 @@ use Rattle.cedar_expr_model.proofs.Equality.{uid_eq-Decides}
 use Rattle.cedar_store_model.specs.World.{World, Found, missing, not_loaded}
 use Rattle.cedar_store_model.specs.Store.{unloaded}
 use Rattle.cedar_schema_model.specs.Schema.{Schema, declares_action}
-use Rattle.cedar_gate_model.specs.Slice.{IsNear, InSlice}
-use Rattle.cedar_gate_model.proofs.Gate.Slices.{near_within, near_kept}
-use Rattle.cedar_gate_model.proofs.Gate.Mentions.{FoundMentions}
+use Rattle.cedar_typechecker_model.specs.Slice.{IsNear, InSlice}
+use Rattle.cedar_typechecker_model.proofs.InReach.{near_within}
+use Rattle.cedar_gate_model.proofs.Gate.Slices.{near_kept}
+use Rattle.cedar_typechecker_model.proofs.Mentions.{FoundMentions}
 
 -- the world with the declared actions and the answers alone
 abbrev pub loading : Schema → World → List Uid → World

@@ -17,7 +17,7 @@ use Rattle.cedar_schema_model.specs.Schema.{Schema, enumerated}
 use Rattle.cedar_schema_model.specs.Types.{record_type, is_closed}
 use Rattle.cedar_schema_model.proofs.Decls.Descent.{descends-Decides}
 use Rattle.cedar_typechecker_model.proofs.Moved.Schemas.{IsMoved, moved_back, same_test, any_moved, actions_into, descends_into, same_declares_type, same_declares_action, same_action_descends}
-use Rattle.cedar_gate_model.specs.Slice.{mentioned_by_parts, mentioned_by_found, IsNear}
+use Rattle.cedar_typechecker_model.specs.Slice.{mentioned_by_parts, mentioned_by_found, IsNear}
 use Rattle.cedar_gate_model.proofs.Runs.Ancestors.{FoundAlike, by_found_alike}
 
 module _ (s t : Schema) (m : IsMoved s t) where

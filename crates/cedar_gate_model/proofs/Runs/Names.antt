@@ -32,7 +32,7 @@ use Rattle.cedar_gate_model.specs.Moment.{EntryCompleted, ContextCompleted}
 use Rattle.cedar_gate_model.specs.Session.{Setup, State, value_of, uid_in, entry_now, variable_names, context_unknowns, OpenRefusal, OpenFault, quote_in_name, name_of_variable, entry_named, is_open_entry, is_open_context, ContextFails, context_fails, MeansBound, CompletesNow}
 use Rattle.cedar_gate_model.specs.RunsAnswer.{AreBound}
 use Rattle.cedar_gate_model.proofs.Gate.LegalRuns.{bound_or_open}
-use Rattle.cedar_gate_model.proofs.Reading.Values.{feature_of, no_feature_split}
+use Rattle.cedar_evaluator_model.proofs.Restricted.{feature_of, no_feature_split}
 use Rattle.cedar_gate_model.proofs.Runs.Completing.{Stands, stands_at_start, bound_more, taken_value}
 
 -- a restricted expression looks nothing up

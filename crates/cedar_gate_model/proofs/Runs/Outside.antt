@@ -21,7 +21,7 @@ use Rattle.cedar_gate_model.specs.Owed.{IsForced}
 use Rattle.cedar_gate_model.specs.RunLaws.{bindings_in, last_state}
 use Rattle.cedar_gate_model.specs.Runs.{answered, IsRoundNow, MayDecide, Finishes, Follows, Loads, supplied_by, with_asked}
 use Rattle.cedar_gate_model.specs.Session.{Setup, State, at_start, known_now, whole_store, world_now, with_bound, IsWantedNow, IsWantedList, NothingIsWanted, BindRefusal, BindFault, not_open, against_annotation, no_entity_or_record, context_fails, Supplied, SupplyRefusal, SupplyFault, not_wanted, lacking, repeated, wrong_entity, AnswerRefusal, AnswerFault, not_bound, still_wanted, not_conforming}
-use Rattle.cedar_gate_model.specs.Slice.{InSlice}
+use Rattle.cedar_typechecker_model.specs.Slice.{InSlice}
 use Rattle.cedar_gate_model.specs.Transcript.{Step, load, bind_name, decide, Entry, round, bound, decided, after}
 
 within_append : (us vs : List Uid) (u : Uid) → Contains us u → Contains (us ++ vs) u

@@ -18,19 +18,21 @@ use Rattle.cedar_evaluator_model.specs.Scope.{Context, closed, residual_fields, 
 use Rattle.cedar_evaluator_model.specs.OfLaws.WellMade.{IsWellMade}
 use Rattle.cedar_gate_model.specs.Reading.{given, required, optional, has_only, each, list_of}
 use Rattle.cedar_gate_model.specs.Acceptance.{IsAccepted}
-use Rattle.cedar_gate_model.specs.Bundle.{Functions, Bundle}
+use Rattle.cedar_evaluator_model.specs.Functions.{Functions, with_functions, left_of_restricted}
+use Rattle.cedar_gate_model.specs.Bundle.{Bundle}
 use Rattle.cedar_gate_model.specs.ReadingBundle.{submission_read, is_bundle, bundle_read}
 use Rattle.cedar_gate_model.specs.ReadingExpression.{second, expression_read}
 use Rattle.cedar_gate_model.specs.ReadingForms.{if_passing, word_of}
 use Rattle.cedar_gate_model.specs.ReadingRequest.{entry_read, request_read, store_read, binding_read, step_read, steps_read}
-use Rattle.cedar_gate_model.specs.ReadingValue.{with_functions, left_of_restricted, if_value, value_read, context_read}
+use Rattle.cedar_gate_model.specs.ReadingValue.{if_value, value_read, context_read}
 use Rattle.cedar_gate_model.specs.RunLaws.{bindings_in}
 use Rattle.cedar_gate_model.specs.RunsAnswer.{IsProper, MakeFairly, course_of}
 use Rattle.cedar_gate_model.specs.RunsAsk.{IsMadeContext}
 use Rattle.cedar_gate_model.specs.Transcript.{Step, load, bind_name, decide}
 use Rattle.cedar_gate_model.proofs.Reading.Bundles.{bundle_parts, there_has, table_is_given, store_holds_values}
+use Rattle.cedar_evaluator_model.proofs.Restricted.{none_is}
 use Rattle.cedar_gate_model.proofs.Reading.Steps.{given_some, map_some, passing_some, beside_all, given_gives, map_gives, if_gives}
-use Rattle.cedar_gate_model.proofs.Reading.Values.{none_is, first_some, open_contexts_have_unknowns}
+use Rattle.cedar_gate_model.proofs.Reading.Values.{first_some, open_contexts_have_unknowns}
 use Rattle.cedar_gate_model.proofs.Runs.WellMade.{makes_well, evaluated_well}
 use Rattle.cedar_gate_model.proofs.Named.{request_keys, step_words}
 

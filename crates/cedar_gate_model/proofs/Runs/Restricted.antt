@@ -25,7 +25,7 @@ use Rattle.cedar_evaluator_model.specs.Evaluation.{pieces_of, node, evaluated}
 use Rattle.cedar_evaluator_model.proofs.GivenLists.{bare_members}
 use Rattle.cedar_evaluator_model.proofs.GivenReads.{length_bare}
 use Rattle.cedar_evaluator_model.proofs.Named.{call_of, field_names, field_trees, fields_named}
-use Rattle.cedar_gate_model.proofs.Reading.Values.{no_feature_split, feature_of}
+use Rattle.cedar_evaluator_model.proofs.Restricted.{no_feature_split, feature_of}
 
 pub mapped_some : {A B : Type 0} (f : A → B) (q : Option A) (y : B) → option_map f q ≡ Some y → (x : A) × (q ≡ Some x) × (f x ≡ y)
 mapped_some f None y e = cc

@@ -40,15 +40,15 @@ use Rattle.cedar_evaluator_model.proofs.Residuals.Decisions as decisions
 use Rattle.cedar_evaluator_model.proofs.Residuals.Node as stood
 use Rattle.cedar_evaluator_model.proofs.Residuals.Slots.{substituted_outcome, substituted_fits, value_with_slots}
 use Rattle.cedar_gate_model.specs.Moment.{ContextCompleted, context_known}
-use Rattle.cedar_gate_model.specs.ReadingValue.{with_functions}
+use Rattle.cedar_evaluator_model.specs.Functions.{with_functions}
 use Rattle.cedar_gate_model.specs.Session.{Setup, State, value_of, context_left, context_now, scope_now, CompletesNow}
 use Rattle.cedar_gate_model.specs.Runs.{MayDecide}
 use Rattle.cedar_gate_model.specs.RunsAsk.{IsMadeContext}
 use Rattle.cedar_gate_model.specs.RunsAnswer.{Course, session_of, IsAdmitted, MakeFairly, IsOpened, IsKnownStore}
 use Rattle.cedar_gate_model.proofs.Gate.LegalRuns.{moment_of}
-use Rattle.cedar_gate_model.proofs.Reading.Values.{evaluated_clean, Clean, none_is}
+use Rattle.cedar_evaluator_model.proofs.Restricted.{evaluated_clean, Clean, none_is, substituted_restricted}
 use Rattle.cedar_gate_model.proofs.Runs.Completing.{Stands, taken_value}
-use Rattle.cedar_gate_model.proofs.Runs.Contexts.{bound_context, left_context, substituted_restricted}
+use Rattle.cedar_gate_model.proofs.Runs.Contexts.{bound_context, left_context}
 use Rattle.cedar_gate_model.proofs.Runs.Deciding.{none_unknown, none_has_unknowns, leaves_nothing}
 use Rattle.cedar_gate_model.proofs.Runs.Knowing.{known_there, open_is_uid}
 use Rattle.cedar_gate_model.proofs.Runs.Legal as legal

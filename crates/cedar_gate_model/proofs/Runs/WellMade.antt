@@ -20,9 +20,9 @@ use Rattle.cedar_evaluator_model.proofs.Represented.{well_of_represented}
 use Rattle.cedar_evaluator_model.proofs.GivenReads.{length_bare}
 use Rattle.cedar_evaluator_model.proofs.Named.{call_of, field_names, field_trees, fields_named}
 use Rattle.cedar_evaluator_model.proofs.Residuals.Lists.{EachWellMade, stands_set, fields_well}
-use Rattle.cedar_gate_model.specs.Bundle.{Functions}
+use Rattle.cedar_evaluator_model.specs.Functions.{Functions}
 use Rattle.cedar_gate_model.specs.RunsAnswer.{MakeFairly}
-use Rattle.cedar_gate_model.proofs.Reading.Values.{no_feature_split, feature_of, parts_of, listed_same, fields_same}
+use Rattle.cedar_evaluator_model.proofs.Restricted.{no_feature_split, feature_of, parts_of, listed_same, fields_same}
 use Rattle.cedar_gate_model.proofs.Runs.Restricted.{mapped_some, comes_of}
 
 pub makes_well : (x : Functions) → MakeFairly x → (f : Name) (ms : List Made) (m : Made) → IsTaken x.table f (map bare ms) → x.calls f ms ≡ makes m → IsWellMade x.table m

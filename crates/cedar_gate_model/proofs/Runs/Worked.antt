@@ -20,7 +20,7 @@ use Rattle.cedar_expr_model.specs.Uid.{uid_eq}
 use Rattle.cedar_typechecker_model.specs.Worked.{user_a, doc_d}
 use Rattle.cedar_gate_model.specs.RunsAnswer.{IsProper, IsOpened, IsKnownStore, session_of, end_world, with_unknowns}
 use Rattle.cedar_gate_model.specs.Session.{at_start, known_now, IsWantedNow, OpenRefusal, OpenFault, quote_in_name, name_of_variable, CompletesNow}
-use Rattle.cedar_gate_model.specs.Slice.{slice}
+use Rattle.cedar_typechecker_model.specs.Slice.{slice}
 use Rattle.cedar_gate_model.specs.Transcript.{Entry, round}
 use Rattle.cedar_gate_model.specs.WorkedGate.{user_b, three_and_z, loading, loaded_course, actions_alone, p0_allows}
 use Rattle.cedar_gate_model.proofs.Gate.LegalRuns.{completes_before}

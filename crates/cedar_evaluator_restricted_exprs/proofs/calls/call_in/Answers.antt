@@ -6,7 +6,7 @@ use Rattle.cedar_expr_values.specs.Extensions.{extension_of}
 use Rattle.cedar_expr_values.specs.Values.{made}
 use Rattle.cedar_store_model.specs.Outcome.{no_function}
 use Rattle.cedar_evaluator_model.specs.Steps.{errs, call_left}
-use Rattle.cedar_gate_model.specs.ReadingValue.{with_functions}
+use Rattle.cedar_evaluator_model.specs.Functions.{with_functions}
 use Rattle.cedar_evaluator_restricted_exprs.specs.Lefts.{Leaves, is_stopped}
 use Rattle.cedar_evaluator_errors.proofs.Called.{found_made}
 use Rattle.cedar_evaluator_restricted_exprs.proofs.calls.call_in.Goals as goal

@@ -8,7 +8,7 @@ use Rattle.cedar_expr_values.specs.Extensions.{extension_of}
 use Rattle.cedar_expr_values.specs.Values.{made}
 use Rattle.cedar_evaluator_model.specs.Scope.{residual}
 use Rattle.cedar_evaluator_model.specs.Steps.{called_left}
-use Rattle.cedar_gate_model.specs.ReadingValue.{with_functions}
+use Rattle.cedar_evaluator_model.specs.Functions.{with_functions}
 use Rattle.cedar_evaluator_restricted_exprs.specs.Lefts.{Leaves, parts_of, IsParted}
 use Rattle.cedar_evaluator_restricted_exprs.proofs.value_parts.call_left.Goals as goal
 

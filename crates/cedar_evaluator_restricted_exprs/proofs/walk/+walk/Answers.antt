@@ -12,7 +12,7 @@ use Rattle.cedar_expr_model.specs.Parts.{listed, listed_fields}
 use Rattle.cedar_evaluator_model.specs.Scope.{value_left}
 use Rattle.cedar_evaluator_model.specs.Steps.{called_left, made_members, made_fields}
 use Rattle.cedar_evaluator_model.specs.Evaluation.{evaluated, node, pieces_of}
-use Rattle.cedar_gate_model.specs.ReadingValue.{with_functions}
+use Rattle.cedar_evaluator_model.specs.Functions.{with_functions}
 use Rattle.cedar_evaluator_restricted_exprs.specs.Lefts.{Leaves}
 use Rattle.cedar_evaluator_restricted_exprs.proofs.Levels.{one_level, at_limit}
 use Rattle.cedar_evaluator_restricted_exprs.proofs.Gathered.{passed_on, starts, fields_start, on, off, all, handed_on, field_on, field_off, fields_all, fewer, trees_in}

@@ -1,8 +1,7 @@
 use Rattle.std.proofs.Common.{◌≡◌, ◌+◌, ◌*◌, true, drop, length}
 use Rattle.std.specs.BTreeMap.{values}
 use Rattle.cedar_evaluator_model.specs.Evaluation.{evaluated}
-use Rattle.cedar_gate_model.specs.Bundle.{Functions}
-use Rattle.cedar_gate_model.specs.ReadingValue.{with_functions}
+use Rattle.cedar_evaluator_model.specs.Functions.{Functions, with_functions}
 use Rattle.cedar_evaluator_restricted_exprs.specs.Restricted.{are_restricted, have_restricted}
 use Rattle.cedar_evaluator_restricted_exprs.proofs.Gathered.{SoFar, trees_in}
 use Rattle.cedar_evaluator_restricted_exprs.proofs.walk.+walk.Given as goal

@@ -2,7 +2,7 @@ use Rattle.std.proofs.Common.{◌≡◌, Some, None, map, true, codes, rules, ap
 use Rattle.serde_json.specs.View.{view}
 use Rattle.cedar_store_entities.specs.Stores.{store_seen}
 use Rattle.cedar_evaluator_restricted_exprs.specs.Answers.{AgreesWith}
-use Rattle.cedar_gate_model.specs.Bundle.{Functions}
+use Rattle.cedar_evaluator_model.specs.Functions.{Functions}
 use Rattle.cedar_gate_model.specs.Reading.{given, required}
 use Rattle.cedar_gate_model.specs.ReadingBundle.{is_bundle, bundle_read}
 use Rattle.cedar_gate_model.specs.ReadingRequest.{request_read, store_read}

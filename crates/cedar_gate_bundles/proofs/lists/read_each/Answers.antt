@@ -1,7 +1,7 @@
 use Rattle.std.proofs.Common.{◌≡◌, None, map}
 use Rattle.serde_json.specs.View.{items_view}
 use Rattle.cedar_evaluator_restricted_exprs.specs.Answers.{AgreesWith}
-use Rattle.cedar_gate_model.specs.Bundle.{Functions}
+use Rattle.cedar_evaluator_model.specs.Functions.{Functions}
 use Rattle.cedar_gate_model.specs.Reading.{each}
 use Rattle.cedar_gate_bundles.proofs.ByTable.{item_unread}
 use Rattle.cedar_gate_bundles.proofs.Unread.{handed_on}

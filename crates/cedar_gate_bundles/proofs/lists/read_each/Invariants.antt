@@ -1,7 +1,7 @@
 use Rattle.std.proofs.Common.{◌≡◌, drop, map}
 use Rattle.serde_json.specs.View.{items_view}
 use Rattle.cedar_evaluator_restricted_exprs.specs.Answers.{AgreesWith}
-use Rattle.cedar_gate_model.specs.Bundle.{Functions}
+use Rattle.cedar_evaluator_model.specs.Functions.{Functions}
 use Rattle.cedar_gate_model.specs.Reading.{each}
 use Rattle.cedar_gate_expressions.proofs.Gathered.{then_rest}
 use Rattle.cedar_gate_bundles.proofs.lists.read_each.Given as goal

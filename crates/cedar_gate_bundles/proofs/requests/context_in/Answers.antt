@@ -9,8 +9,8 @@ use Rattle.cedar_expr_trees.specs.Trees.{tree_of, named, field_trees}
 use Rattle.cedar_evaluator_requests.specs.Views.{context_of}
 use Rattle.cedar_evaluator_restricted_exprs.specs.Answers.{AgreesWith}
 use Rattle.cedar_evaluator_model.specs.Reauthorize.{context_from}
-use Rattle.cedar_gate_model.specs.Bundle.{Functions}
-use Rattle.cedar_gate_model.specs.ReadingValue.{fields_context_read, left_of_restricted}
+use Rattle.cedar_evaluator_model.specs.Functions.{Functions, left_of_restricted}
+use Rattle.cedar_gate_model.specs.ReadingValue.{fields_context_read}
 use Rattle.cedar_gate_bundles.proofs.Parted.{stopped_context}
 use Rattle.cedar_gate_bundles.proofs.Unread.{context_of_record, handed_on, is_left_of_record}
 use Rattle.cedar_gate_bundles.proofs.requests.context_in.Goals as goal

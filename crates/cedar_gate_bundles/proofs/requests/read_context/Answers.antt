@@ -3,7 +3,7 @@ use Rattle.serde_json.specs.Data.{object}
 use Rattle.serde_json.specs.View.{view, members_view}
 use Rattle.serde_json.proofs.Views.{view-Object}
 use Rattle.cedar_evaluator_restricted_exprs.specs.Answers.{AgreesWith}
-use Rattle.cedar_gate_model.specs.Bundle.{Functions}
+use Rattle.cedar_evaluator_model.specs.Functions.{Functions}
 use Rattle.cedar_gate_model.specs.ReadingValue.{context_read}
 use Rattle.cedar_gate_bundles.proofs.Parted.{context_of_object}
 use Rattle.cedar_gate_bundles.proofs.Unread.{handed_on}

@@ -2,7 +2,7 @@ use Rattle.std.proofs.Common.{◌≡◌, Some, None, map}
 use Rattle.serde_json.specs.View.{view}
 use Rattle.cedar_evaluator_restricted_exprs.specs.Answers.{AgreesWith}
 use Rattle.cedar_store_entities.specs.Views.{entity_pair}
-use Rattle.cedar_gate_model.specs.Bundle.{Functions}
+use Rattle.cedar_evaluator_model.specs.Functions.{Functions}
 use Rattle.cedar_gate_model.specs.Reading.{list_of}
 use Rattle.cedar_gate_model.specs.ReadingRequest.{entity_read}
 use Rattle.cedar_gate_model.specs.RunsAnswer.{AnswerFairly}

@@ -7,7 +7,7 @@ use Rattle.cedar_evaluator_restricted_exprs.specs.Answers.{AgreesWith}
 use Rattle.cedar_store_model.specs.Store.{are_distinct}
 use Rattle.cedar_store_entities.specs.Stores.{store_seen}
 use Rattle.cedar_store_entities.specs.Views.{entity_pair}
-use Rattle.cedar_gate_model.specs.Bundle.{Functions}
+use Rattle.cedar_evaluator_model.specs.Functions.{Functions}
 use Rattle.cedar_gate_model.specs.Reading.{given}
 use Rattle.cedar_gate_model.specs.ReadingForms.{if_passing}
 use Rattle.cedar_gate_model.specs.ReadingRequest.{store_read}

@@ -1,5 +1,5 @@
 use Rattle.cedar_expr_trees.specs.Trees.{tree_of}
-use Rattle.cedar_gate_model.specs.ReadingValue.{left_of_restricted}
+use Rattle.cedar_evaluator_model.specs.Functions.{left_of_restricted}
 use Rattle.cedar_gate_bundles.proofs.Evaluated.{stops}
 use Rattle.cedar_gate_bundles.proofs.values.evaluated.Goals as goal
 

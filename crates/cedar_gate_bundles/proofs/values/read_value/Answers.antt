@@ -3,8 +3,8 @@ use Rattle.serde_json.specs.View.{view}
 use Rattle.cedar_evaluator_restricted_exprs.specs.Answers.{AgreesWith}
 use Rattle.cedar_expr_model.specs.Restricted.{is_restricted}
 use Rattle.cedar_expr_trees.specs.Trees.{tree_of}
-use Rattle.cedar_gate_model.specs.Bundle.{Functions}
-use Rattle.cedar_gate_model.specs.ReadingValue.{value_read, if_value, left_of_restricted}
+use Rattle.cedar_evaluator_model.specs.Functions.{Functions, left_of_restricted}
+use Rattle.cedar_gate_model.specs.ReadingValue.{value_read, if_value}
 use Rattle.cedar_evaluator_errors.specs.Outcomes.{left_seen}
 use Rattle.cedar_gate_bundles.proofs.ByTable.{value_of_tree}
 use Rattle.cedar_gate_bundles.proofs.Parted.{stopped_value}

@@ -2,7 +2,7 @@ use Rattle.std.proofs.Common.{sym}
 use Rattle.cedar_evaluator_restricted_exprs.specs.Answers.{AgreesWith}
 use Rattle.cedar_evaluator_errors.specs.Outcomes.{left_seen}
 use Rattle.cedar_expr_trees.specs.Trees.{tree_of}
-use Rattle.cedar_gate_model.specs.ReadingValue.{left_of_restricted}
+use Rattle.cedar_evaluator_model.specs.Functions.{left_of_restricted}
 use Rattle.cedar_gate_openings.proofs.Records.{context_made, context_fails, no_context}
 use Rattle.cedar_gate_openings.proofs.contexts.context_evaluated.Goals as goal
 

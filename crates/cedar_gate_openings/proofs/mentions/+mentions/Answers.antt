@@ -2,7 +2,7 @@ use Rattle.std.proofs.Common.{◌≡◌, ◌++◌, [], OnOk, sym, ap, ◌∙◌,
 use Rattle.std.proofs.lemmas.List.{append-nil}
 use Rattle.cedar_expr_model.specs.Made as model
 use Rattle.cedar_expr_values.specs.Values.{bare, bare_kind}
-use Rattle.cedar_gate_model.specs.Slice.{mentioned}
+use Rattle.cedar_typechecker_model.specs.Slice.{mentioned}
 use Rattle.cedar_gate_openings.specs.Mentions.{uids, mentioned_in}
 use Rattle.cedar_gate_openings.proofs.Mentioned.{by_fields, add_one, fields_size_of}
 use Rattle.cedar_gate_openings.proofs.mentions.+mentions.Goals as goal

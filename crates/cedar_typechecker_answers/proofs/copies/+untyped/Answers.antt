@@ -7,7 +7,8 @@ use Rattle.cedar_expr_trees.proofs.Sizes.{arguments_are_smaller}
 use Rattle.cedar_expr_trees.proofs.Trees.{call_tree, set_tree, record_tree}
 use Rattle.cedar_typechecker_model.specs.Typed.{blank, mark}
 use Rattle.cedar_typechecker_answers.specs.Marked.{marks_of, rows, named_tree}
-use Rattle.cedar_typechecker_answers.proofs.Copied.{one_more, all_made, drop_here, none_left, blanks_are, field_blanks_are, named_trees, copies_rise}
+use Rattle.cedar_typechecker_answers.proofs.Copied.{one_more, all_made, drop_here, none_left, blanks_are, field_blanks_are, named_trees}
+use Rattle.cedar_typechecker_answers.proofs.Fields.{trees_in_map, marks_in_map}
 use Rattle.cedar_typechecker_answers.proofs.copies.+untyped.Goals as goal
 
 pub untyped-untyped_all-requires : goal.untyped-untyped_all-requires
@@ -74,7 +75,7 @@ untyped-returns-in_ok-record_kind-in-Record-clause-tree t c =
     ∙ ap (λ m. record_literal (tree_fields (named (field_trees {T = Unit} m.entries)))) (sym c.deref-in-Record.ensures) in
     c.of_kind-in-Record.ensures.tree
     ∙ c.in_ok-record_kind-in-Record.ensures.tree
-    ∙ ap (λ ps. record_literal (tree_fields ps)) (named_trees c.in_ok-fields-in-Record.fields.items ∙ c.in_ok-fields-in-Record.ensures.trees ∙ sym (named_trees es))
+    ∙ ap (λ ps. record_literal (tree_fields ps)) (named_trees c.in_ok-fields-in-Record.fields.entries ∙ c.in_ok-fields-in-Record.ensures.trees ∙ sym (named_trees es))
     ∙ sym is
 
 pub untyped-returns-in_ok-record_kind-in-Record-clause-blank : goal.untyped-returns-in_ok-record_kind-in-Record-clause-blank
@@ -119,10 +120,12 @@ untyped_fields-loop-name-preserved t c =
     }
 
 pub untyped_fields-returns-clause-trees : goal.untyped_fields-returns-clause-trees
-untyped_fields-returns-clause-trees t c = all_made _ _ _ c.loop-name.all.items c.loop-name.name-iterator c.loop-name.invariant.trees c.in-None.ensures.steps.0
+untyped_fields-returns-clause-trees t c =
+    let trees = all_made _ _ _ c.loop-name.all.items c.loop-name.name-iterator c.loop-name.invariant.trees c.in-None.ensures.steps.0 in
+    trees_in_map c.loop-name.all.items c.args.fields.now.entries c.field_map.result trees c.len.ensures.ordered c.field_map.ensures
 
 pub untyped_fields-returns-clause-blank : goal.untyped_fields-returns-clause-blank
-untyped_fields-returns-clause-blank t c = all_made _ _ _ c.loop-name.all.items c.loop-name.name-iterator c.loop-name.invariant.blank c.in-None.ensures.steps.0
-
-pub untyped_fields-returns-clause-rising : goal.untyped_fields-returns-clause-rising
-untyped_fields-returns-clause-rising t c = copies_rise c.loop-name.all.items c.args.fields.now.entries (all_made _ _ _ c.loop-name.all.items c.loop-name.name-iterator c.loop-name.invariant.trees c.in-None.ensures.steps.0) c.len.ensures.ordered
+untyped_fields-returns-clause-blank t c =
+    let trees = all_made _ _ _ c.loop-name.all.items c.loop-name.name-iterator c.loop-name.invariant.trees c.in-None.ensures.steps.0 in
+    let blank = all_made _ _ _ c.loop-name.all.items c.loop-name.name-iterator c.loop-name.invariant.blank c.in-None.ensures.steps.0 in
+    marks_in_map c.loop-name.all.items c.args.fields.now.entries c.field_map.result trees blank c.len.ensures.ordered c.field_map.ensures

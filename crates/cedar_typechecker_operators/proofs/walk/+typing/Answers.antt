@@ -12,7 +12,7 @@ use Rattle.cedar_typechecker_answers.specs.Answers.{seen}
 use Rattle.cedar_typechecker_answers.specs.Steps.{choice_step_seen}
 use Rattle.cedar_typechecker_operators.proofs.ByKind.{in_tree, both_go}
 use Rattle.cedar_typechecker_answers.proofs.Copied.{one_more, all_made}
-use Rattle.cedar_typechecker_operators.proofs.InRows.{row_on, row_stops, fields_on, fields_stop, fields_end, rise_by_names}
+use Rattle.cedar_typechecker_operators.proofs.InRows.{row_on, row_stops, fields_on, fields_stop, fields_end, fields_in_order, rise_by_names}
 use Rattle.cedar_typechecker_operators.proofs.Smaller.{members_are_smaller}
 use Rattle.cedar_typechecker_operators.proofs.walk.+typing.Goals as goal
 
@@ -60,8 +60,8 @@ typecheck_all-returns-in-Fail g t c = row_stops (setting_of g.S.DeclaredAttribut
 pub typecheck_all-loop-e-preserved : goal.typecheck_all-loop-e-preserved
 typecheck_all-loop-e-preserved g t c = row_on (setting_of g.S.DeclaredAttributes.schema g.S.TypingSchema.table c.args.world.now) (facts_of c.args.known.now) c.args.exprs.now c.loop-e.e-index c.e-item.result _ c.loop-e.row.items c.push.new.self.items c.in-Success.expr_type (facts_of c.in-Success.expr_capability) c.loop-e-test.true c.e-item.is c.loop-e.invariant (ap seen (sym c.in-Success.is) ∙ c.in_ok-expr_type.ensures) c.in_ok-push-in-Success.ensures.items
 
-pub typecheck_fields-returns-in-Fail-clause-typed : goal.typecheck_fields-returns-in-Fail-clause-typed
-typecheck_fields-returns-in-Fail-clause-typed g t c = fields_stop (setting_of g.S.DeclaredAttributes.schema g.S.TypingSchema.table c.args.world.now) (facts_of c.args.known.now) c.args.fields.now.entries c.loop-name.name-iterator c.next.new.self c.loop-name.row.items c.in-Some.name.now c.in-Some.e.now c.loop-name.invariant.typed c.in-Some.ensures.steps (ap seen (sym c.in-Fail.is) ∙ c.in_ok-expr_type.ensures)
+pub typecheck_fields-returns-in-Fail : goal.typecheck_fields-returns-in-Fail
+typecheck_fields-returns-in-Fail g t c = fields_stop (setting_of g.S.DeclaredAttributes.schema g.S.TypingSchema.table c.args.world.now) (facts_of c.args.known.now) c.args.fields.now.entries c.loop-name.name-iterator c.next.new.self c.loop-name.row.items c.in-Some.name.now c.in-Some.e.now c.loop-name.invariant.typed c.in-Some.ensures.steps (ap seen (sym c.in-Fail.is) ∙ c.in_ok-expr_type.ensures)
 
 pub typecheck_fields-loop-name-preserved : goal.typecheck_fields-loop-name-preserved
 typecheck_fields-loop-name-preserved g t c = record {
@@ -69,8 +69,8 @@ typecheck_fields-loop-name-preserved g t c = record {
   names = one_more _ _ _ c.loop-name.row.items c.push.new.self.items c.loop-name.name-iterator c.next.new.self (c.in_ok-clone-in-Success.field-0, c.in-Success.expr_type) (c.in-Some.name.now, c.in-Some.e.now) c.loop-name.invariant.names c.in-Some.ensures.steps c.in_ok-push-in-Success.ensures.items (search rules);
 }
 
-pub typecheck_fields-returns-clause-typed : goal.typecheck_fields-returns-clause-typed
-typecheck_fields-returns-clause-typed g t c = fields_end (setting_of g.S.DeclaredAttributes.schema g.S.TypingSchema.table c.args.world.now) (facts_of c.args.known.now) c.args.fields.now.entries c.loop-name.name-iterator c.loop-name.row.items c.loop-name.invariant.typed c.in-None.ensures.steps.0
-
-pub typecheck_fields-returns-clause-rising : goal.typecheck_fields-returns-clause-rising
-typecheck_fields-returns-clause-rising g t c = rise_by_names c.loop-name.row.items c.args.fields.now.entries (all_made _ _ _ c.loop-name.row.items c.loop-name.name-iterator c.loop-name.invariant.names c.in-None.ensures.steps.0) c.len.ensures.ordered
+pub typecheck_fields-returns : goal.typecheck_fields-returns
+typecheck_fields-returns g t c =
+    let rising = rise_by_names c.loop-name.row.items c.args.fields.now.entries (all_made _ _ _ c.loop-name.row.items c.loop-name.name-iterator c.loop-name.invariant.names c.in-None.ensures.steps.0) c.len.ensures.ordered in
+    fields_in_order _ c.loop-name.row.items _ rising c.in_ok-field_map.ensures
+    ∙ fields_end (setting_of g.S.DeclaredAttributes.schema g.S.TypingSchema.table c.args.world.now) (facts_of c.args.known.now) c.args.fields.now.entries c.loop-name.name-iterator c.loop-name.row.items c.loop-name.invariant.typed c.in-None.ensures.steps.0

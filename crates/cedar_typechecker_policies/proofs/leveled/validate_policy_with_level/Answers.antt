@@ -3,12 +3,12 @@ use Rattle.cedar_schema_joins.specs.Modes.{mode_of}
 use Rattle.cedar_store_policies.specs.Templates.{template_of, template_loc}
 use Rattle.cedar_store_parts.specs.Views.{warning_of}
 use Rattle.cedar_typechecker_policies.specs.Findings.{warned_as}
-use Rattle.cedar_typechecker_policies.specs.Found.{FindsErrors, FindsWarnings, scope_blames, asked_in}
+use Rattle.cedar_typechecker_policies.specs.Found.{FindsErrors, FindsWarnings, scope_blames}
 use Rattle.cedar_typechecker_policies.specs.Violations.{blame_told}
 use Rattle.cedar_typechecker_policies.specs.Sound.{ForAlike, PolicyMeansTruth, LooksInReach}
 use Rattle.cedar_typechecker_policies.specs.declared.leveled.Validated.{Validated}
 use Rattle.cedar_typechecker_policies.proofs.Finding.{on_ok, errors_found, nothing_means, nothing_reaches}
-use Rattle.cedar_typechecker_scopes.specs.Applying.{application_warnings}
+use Rattle.cedar_typechecker_scopes.specs.Applying.{application_warnings, asked_in}
 use Rattle.cedar_typechecker_scopes.specs.Faults.{blame_of}
 use Rattle.cedar_typechecker_policies.proofs.leveled.validate_policy_with_level.Goals as goal
 

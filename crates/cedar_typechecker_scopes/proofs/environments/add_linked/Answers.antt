@@ -2,7 +2,7 @@ use Rattle.std.proofs.Common.{◌≡◌, ◌++◌, map, option_map, ap, ◌∙�
 use Rattle.std.specs.Prelude.{OnOk}
 use Rattle.std.specs.List.{flat_map}
 use Rattle.cedar_expr_names.specs.Views.{type_name_of}
-use Rattle.cedar_schema_model.specs.Environment.{slot_types, with_slots}
+use Rattle.cedar_schema_model.specs.Environment.{with_slots}
 use Rattle.cedar_typechecker_environments.specs.Settings.{environment_of}
 use Rattle.cedar_typechecker_scopes.proofs.environments.add_linked.Goals as goal
 

@@ -5,7 +5,7 @@ use Rattle.cedar_expr_values.specs.Extensions.{extension_of}
 use Rattle.cedar_expr_values.specs.Values.{made}
 use Rattle.cedar_store_entities.specs.Recorded.{all_recorded}
 use Rattle.cedar_evaluator_restricted_exprs.specs.Answers.{AgreesWith}
-use Rattle.cedar_gate_model.specs.Bundle.{Functions}
+use Rattle.cedar_evaluator_model.specs.Functions.{Functions}
 use Rattle.cedar_gate_model.specs.Reading.{given, required, has_only}
 use Rattle.cedar_gate_model.specs.ReadingName.{uid_read}
 use Rattle.cedar_gate_expressions.specs.Maps.{texts_seen}

@@ -9,7 +9,7 @@ use Rattle.cedar_expr_model.specs.Value.{V}
 use Rattle.cedar_expr_model.specs.ValueParts.{Part, known_value}
 use Rattle.cedar_expr_model.proofs.Lists.{flat_has, flat_from}
 use Rattle.cedar_store_model.specs.World.{World, Found}
-use Rattle.cedar_gate_model.specs.Slice.{mentioned, mentioned_by_parts, mentioned_by_found, roots}
+use Rattle.cedar_typechecker_model.specs.Slice.{mentioned, mentioned_by_parts, mentioned_by_found, roots}
 
 -- what a part mentions
 abbrev pub mentioned_by_part : Part V → List Uid
