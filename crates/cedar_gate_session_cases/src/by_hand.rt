@@ -1,7 +1,7 @@
 //! Rows of services that fetch their entities themselves, round by round: what is loaded, and the decision, as soon as there is one.
 
 use crate::rows::hold;
-use cedar_gate_examples::Made;
+use cedar_gate_cases::Made;
 
 const LOADED: &str = r#"# the owner is loaded in a second round, and then there is a decision
 level 2

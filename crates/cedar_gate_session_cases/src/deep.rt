@@ -1,7 +1,7 @@
 //! Rows of conditions as deep as the greatest limit allows, and one level deeper. A condition has three levels more than its body.
 
 use crate::rows::hold;
-use cedar_gate_examples::Made;
+use cedar_gate_cases::Made;
 
 const AS_DEEP: &str = r#"# a condition of 511 levels is evaluated
 limit 512

@@ -1,7 +1,7 @@
 //! Rows of sessions of which parts of the request are unknown.
 
 use crate::rows::hold;
-use cedar_gate_examples::Made;
+use cedar_gate_cases::Made;
 
 const OPENING: &str = r#"# an unknown of the context may not be named as an entity is written
 policies only_a

@@ -16,7 +16,7 @@ use cedar_expr_functions::{
 };
 use cedar_expr_names::Name;
 use cedar_expr_values::{ExtValue, Literal, Type, Value, ValueKind};
-use cedar_gate_examples::{Made, first_wrong};
+use cedar_gate_cases::{Made, first_wrong};
 use cedar_test_exprs::made;
 use std::alloc::{AllocError, Global};
 use std::process::Abort;

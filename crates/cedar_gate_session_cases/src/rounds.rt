@@ -1,7 +1,7 @@
 //! Rows of sessions whose request is known: rounds, early decisions, bounds and answers.
 
 use crate::rows::hold;
-use cedar_gate_examples::Made;
+use cedar_gate_cases::Made;
 
 const ROUNDS: &str = r#"# the owner comes in the second round, and a stranger never
 level 2

@@ -1,7 +1,7 @@
 //! That all rows of a text hold.
 
 use cedar_expr_functions::Extensions;
-use cedar_gate_examples::{Made, first_wrong};
+use cedar_gate_cases::{Made, first_wrong};
 use std::alloc::Global;
 use std::process::Abort;
 

@@ -1,7 +1,7 @@
 //! Rows of runs: what they did, and the answer or why they stopped.
 
 use crate::rows::hold;
-use cedar_gate_examples::Made;
+use cedar_gate_cases::Made;
 
 const ANSWERED: &str = r#"# a run loads round by round, asks for what is near alone, and answers
 level 2

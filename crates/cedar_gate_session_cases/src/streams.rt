@@ -1,7 +1,7 @@
 //! The service over readers and writers that fail, and over what is no bundle.
 
 use cedar_expr_functions::Extensions;
-use cedar_gate_examples::{Made, ServeFault, Status, serve};
+use cedar_gate_cases::{Made, ServeFault, Status, serve};
 use cedar_test_exprs::{say, show};
 use std::alloc::Global;
 use std::io;

@@ -1,7 +1,8 @@
 //! Rows of what the gate accepts and refuses, of its warnings, and of which policies may decide.
 
+use crate::Made;
 use crate::rows::hold;
-use cedar_gate_examples::{Made, NestLimit};
+use cedar_gate::NestLimit;
 
 const REACH: &str = r#"# the boss of the owner lies two steps away
 level 1

@@ -1,7 +1,7 @@
 //! Rows of entities and requests that conform to a schema, and of what is wrong with those that don't.
 
+use crate::Made;
 use crate::rows::hold;
-use cedar_gate_examples::Made;
 
 const ENTITIES: &str = r#"# entities of a standard type
 accept : done
