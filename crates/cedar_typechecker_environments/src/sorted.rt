@@ -72,6 +72,9 @@ impl<K: Ord + Clone + Drop> SortedKeys<K> {
         ensures { IfOk result (λ s. IsUnion (eq_by_cmp K.cmp) self.now other.now s) }
     {
         let alloc = *self.keys.allocator();
+        if self.keys.is_empty() && other.keys.is_empty() {
+            return Ok(SortedKeys::new(alloc));
+        }
         let keys = copies_of_either(alloc, self.keys.as_slice(), other.keys.as_slice())?;
         Ok(SortedKeys { keys })
     }
