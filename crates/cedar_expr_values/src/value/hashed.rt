@@ -13,6 +13,9 @@ use std::alloc::{AllocError, Global};
 use std::collections::HashSet;
 use std::hash::{DefaultHasher, Hash};
 
+// How many literals need no key of their own.
+const FEW: usize = 8;
+
 // The literals that these values are, hashed, where each is one. Fails only when out of memory.
 pub(super) fn hashed<X: ExtensionValue>(
     alloc: Global,
@@ -56,12 +59,14 @@ fn literals_among<X: ExtensionValue>(
     Ok(literals)
 }
 
-// The key that the literals among these values come to.
+// The key that the literals among these values come to. A few need none: it costs little if all of them meet in the table.
 fn key_of<X: ExtensionValue>(values: &[Value<X>]) -> Keyed {
     let mut hasher = DefaultHasher::new();
-    for value in values {
-        if let ValueKind::Lit(literal) = &value.kind {
-            literal.hash(&mut hasher);
+    if values.len() > FEW {
+        for value in values {
+            if let ValueKind::Lit(literal) = &value.kind {
+                literal.hash(&mut hasher);
+            }
         }
     }
     Keyed::by(&hasher)

@@ -1,5 +1,5 @@
 //! Hashers that begin with a key of their own. Who writes the members of a set can't foresee which of them meet in its table: the key
-//! is made of all of them.
+//! is made of all of them, where they are more than a few.
 
 ghost use Rattle.std.specs.Hash as fed;
 ghost use Rattle.std.specs.Hash.DefaultHasher as sip;
