@@ -13,6 +13,9 @@ use std::collections::BTreeMap;
 use std::rc::RcStr;
 use std::vec::IntoIter;
 
+// As many places as most conditions have, so that room for them is made once.
+const MANY: usize = 16;
+
 /// Goes over the subexpressions of an expression, each of its places once: the expression first, a node before its children,
 /// and children in order. The room is made at the start.
 #[derive(Drop)]
@@ -31,7 +34,7 @@ impl<'a, T> ExprIterator<'a, T> {
         ensures positions { IfOk result (λ i. exprs_left i ≡ positions expr.entry.now) }
         ensures trees { IfOk result (λ i. map tree_of (exprs_left i) ≡ subexpressions (tree_of expr.entry.now)) }
     {
-        let mut exprs = Vec::new(alloc);
+        let mut exprs = Vec::with_capacity(alloc, MANY)?;
         gather(expr, &mut exprs)?;
         Ok(ExprIterator {
             exprs: exprs.into_iter(),
