@@ -83,10 +83,11 @@ left E::child "size getTag : `E::"child"` does not have the tag `size`
 left E::x E::x == : value true
 unknowns E::x E::parent in : unknown("E::\"x\"") (entity of type `E`)
 unknowns E::x 1 in : unknown("E::\"x\"") (entity of type `E`)
-unknowns E::x .spoon : unknown("E::\"x\"") (entity of type `E`)
-unknowns E::x has=spoon : unknown("E::\"x\"") (entity of type `E`)
-unknowns E::x "spoon getTag : unknown("E::\"x\"") (entity of type `E`)
-unknowns E::x "spoon hasTag : unknown("E::\"x\"") (entity of type `E`)
+left E::x E::parent in : residual $E::"x":E E::parent in
+left E::x .spoon : residual $E::"x":E .spoon
+left E::x has=spoon : residual $E::"x":E has=spoon
+left E::x "spoon getTag : residual $E::"x":E "spoon getTag
+left E::x "spoon hasTag : residual $E::"x":E "spoon hasTag
 # a recorded absence in a partial store
 entity E::child ; store ; partial ; absent E::x
 left E::x has=ok : value false

@@ -116,6 +116,7 @@ const CONTEXTS: &str = r##"# contexts are records
 empty ; context : value record=
 empty ; fields : IntoIter(<context>)
 from_expr 1 : expression is not a record
+from_expr "1 : expression is not a record
 from_expr "a call=yes/1 : expression is not a record
 from_expr $t : expression is not a record
 from_expr 2 1 record=b,a ; context : value 1 2 record=a,b

@@ -62,6 +62,14 @@ uid A::B::a"b\é : A::B::"a\"b\\\u{e9}" A::B a"b\é
 # a copy of a pattern; a `*` is a wildcard
 pattern a*"é : a*\"\u{e9}
 pattern : nothing
+# whether a pattern matches a text, whole; a wildcard is any text, the empty one too
+match f**r|foo bar : yes
+match f**r|fr : yes
+match f**r|foo bars : no
+match *|foo : yes
+match *r|foo : no
+match | : yes
+match |a : no
 # copies of literals
 literal true : true
 literal -9223372036854775808 : -9223372036854775808

@@ -3,13 +3,14 @@
 use crate::names;
 use cedar_expr_leaves::*;
 use cedar_expr_names::Loc;
-use cedar_test_exprs::{at, kept, literal, made, show, told_copy, uid};
+use cedar_test_exprs::{at, kept, literal, made, show, tell, told_copy, uid};
 use std::alloc::{AllocError, Global};
 
 // Does the command, or one of those on names and values.
 pub fn done(alloc: Global, said: &mut String, verb: &str, rest: &str) -> Result<(), AllocError> {
     match verb {
         "pattern" => told_copy(alloc, said, pattern(alloc, rest)),
+        "match" => matches(alloc, said, rest),
         "literal" => told_copy(alloc, said, literal(alloc, rest)),
         "string" => told_copy(alloc, said, string(alloc, rest)),
         "reference" => reference(alloc, said, rest),
@@ -28,6 +29,12 @@ fn pattern(alloc: Global, text: &str) -> Result<Pattern, AllocError> {
         })?;
     }
     Pattern::new(alloc, elements)
+}
+
+// Says whether the pattern before `|` matches the text behind it.
+fn matches(alloc: Global, said: &mut String, text: &str) -> Result<(), AllocError> {
+    let (written, text) = text.split_once('|').ok_or(AllocError)?;
+    tell(said, pattern(alloc, written)?.wildcard_match(text))
 }
 
 fn string(alloc: Global, text: &str) -> Result<Literal, AllocError> {

@@ -130,6 +130,8 @@ put  $x $z < : $x $z <
 typed x=1;y=true $z:Bool $x:Long $y if : $z:Bool 1 true if
 typed x=1 $w:Bool $x:Long record=b,a : $w:Bool 1 record=b,a
 typed w=2;x=1 $w:Bool $x:Bool record=b,a : expected a value of type bool, got a value of type long
+typed x=1;y="s $x:Bool $y:Bool record=a,b : expected a value of type bool, got a value of type long
+typed x=1;y="s $x:Bool $y:Bool record=b,a : expected a value of type bool, got a value of type string
 # through a builder
 through x=true $x true && : true
 through y=true $x true && : $x true &&

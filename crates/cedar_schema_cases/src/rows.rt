@@ -315,11 +315,19 @@ type S | Long
 type T | {t: Set of T, s: S}
 schema => refused 6: cycle in common type references: T
 steps => cycle in common type references: T
+# two that use each other
+type T | common U
+type U | common T
+schema => refused 6: cycle in common type references: T
 # 7: an action that descends from itself
 action all | Action own
 action own | Action own
 schema => refused 7: cycle in action hierarchy containing `Action::"own"`
 steps => cycle in action hierarchy containing `Action::"own"`
+# two that descend from each other
+action a | Action b
+action b | Action a
+schema => refused 7: cycle in action hierarchy containing `Action::"a"`
 # 8: an entity type under the name of the types of actions
 entity User
 namespace N::M

@@ -18,17 +18,17 @@ forbid ; static z ; add_static : done
 bind principal User::a ; link t l : done
 bind principal User::a ; bind resource Doc::d ; link b m : done
 set : t permit ?principal; b permit ?principal ?resource; z of z forbid; l of t permit ?principal a; m of b permit ?principal a ?resource d;
-bind principal User::a ; link t l : template-linked policy id `l` conflicts with an existing policy id
-bind principal User::a ; link t t : template-linked policy id `t` conflicts with an existing policy id
-bind principal User::a ; link t z : template-linked policy id `z` conflicts with an existing policy id
-link t k : the slot `?principal` was not provided as an argument
+bind principal User::a ; link t l : 1 template-linked policy id `l` conflicts with an existing policy id
+bind principal User::a ; link t t : 1 template-linked policy id `t` conflicts with an existing policy id
+bind principal User::a ; link t z : 1 template-linked policy id `z` conflicts with an existing policy id
+link t k : 2 the slot `?principal` was not provided as an argument
 bind principal User::a ; bind resource Doc::d
-link t k : the slot `?resource` was provided as an argument, but did not exist in the template
-bind principal User::c ; bind resource Doc::e ; link b m : template-linked policy id `m` conflicts with an existing policy id
-bind principal User::a ; link b k : the slot `?resource` was not provided as an argument
-bind resource Doc::d ; link b k : the slot `?principal` was not provided as an argument
-bind principal User::a ; link x k : failed to find a template with id `x`
-bind principal User::a ; link l k : failed to find a template with id `l`
+link t k : 3 the slot `?resource` was provided as an argument, but did not exist in the template
+bind principal User::c ; bind resource Doc::e ; link b m : 1 template-linked policy id `m` conflicts with an existing policy id
+bind principal User::a ; link b k : 2 the slot `?resource` was not provided as an argument
+bind resource Doc::d ; link b k : 2 the slot `?principal` was not provided as an argument
+bind principal User::a ; link x k : 4 failed to find a template with id `x`
+bind principal User::a ; link l k : 4 failed to find a template with id `l`
 set : t permit ?principal; b permit ?principal ?resource; z of z forbid; l of t permit ?principal a; m of b permit ?principal a ?resource d;
 # templates and policies share their ids
 scope principal in ?principal ; template t ; add_template : done

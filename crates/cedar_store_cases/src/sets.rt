@@ -42,13 +42,17 @@ fn add(parts: &mut Parts, said: &mut String) -> Made<()> {
     refused(parts.alloc, said, parts.set.add(policy))
 }
 
-// Links the template of the first id under the second, with what the slots are bound to.
+// Links the template of the first id under the second, with what the slots are bound to. Of a refusal the number is said first.
 fn link(parts: &mut Parts, rest: &str, said: &mut String) -> Made<()> {
     let (of, new) = two(rest);
     let of = PolicyID::from_string(parts.alloc, of)?;
     let new = PolicyID::from_string(parts.alloc, new)?;
     let values = bound(parts);
-    refused(parts.alloc, said, parts.set.link(&of, new, values))
+    let linked = parts.set.link(&of, new, values);
+    if let Err(fault) = &linked {
+        show(parts.alloc, said, &fault.number())?;
+    }
+    refused(parts.alloc, said, linked)
 }
 
 // Makes the set of the policies at hand.

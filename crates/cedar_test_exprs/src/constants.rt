@@ -1,6 +1,6 @@
 //! Words that stand for an expression by themselves, and the operators.
 
-use crate::naming::{uid, word};
+use crate::naming::{entity_type, uid, word};
 use cedar_expr_leaves::{BinaryOp, Literal, SlotId, UnaryOp, Var};
 use cedar_expr_trees::{Expr, Type, Unknown};
 use std::alloc::{AllocError, Global};
@@ -67,22 +67,27 @@ pub fn constant(alloc: Global, text: &str) -> Result<Expr, AllocError> {
     }
 }
 
-// The unknown of this name, or of this name and, behind a colon, of this type.
+// The unknown of this name, or of this name and, behind the last colon, of this type.
 fn unknown(alloc: Global, text: &str) -> Result<Unknown, AllocError> {
-    match text.split_once(':') {
-        Some((name, ty)) => Ok(Unknown::new_with_type(word(alloc, name)?, core_type(ty)?)),
+    match text.rsplit_once(':') {
+        Some((name, ty)) => {
+            let ty = core_type(alloc, ty)?;
+            Ok(Unknown::new_with_type(word(alloc, name)?, ty))
+        }
         None => Ok(Unknown::new_untyped(word(alloc, text)?)),
     }
 }
 
-// The type that the text names: one of those that have no parts.
-fn core_type(text: &str) -> Result<Type, AllocError> {
+// The type that the text names: one of those that have no parts, or else that of the entities of a type.
+fn core_type(alloc: Global, text: &str) -> Result<Type, AllocError> {
     match text {
         "Bool" => Ok(Type::Bool),
         "Long" => Ok(Type::Long),
         "String" => Ok(Type::String),
         "Set" => Ok(Type::Set),
         "Record" => Ok(Type::Record),
-        _ => Err(AllocError),
+        _ => Ok(Type::Entity {
+            ty: entity_type(alloc, text)?,
+        }),
     }
 }

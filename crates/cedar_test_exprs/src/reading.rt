@@ -10,8 +10,8 @@ use std::alloc::{AllocError, Global};
 
 /// The expression that the text writes: words with a space between two of them, the operands before their operator. `1 2 + 3 <` is
 /// `1 + 2 < 3`. The words:
-/// - `true`, `-5`, `"text` (without a space), `User::a`; `principal` and the other variables; `?principal`; `$t` and `$t:Bool`,
-///   unknowns
+/// - `true`, `-5`, `"text` (without a space), `User::a`; `principal` and the other variables; `?principal`; `$t`, `$t:Bool`
+///   and `$t:User`, unknowns
 /// - `!`, `neg`, `isEmpty`; `==`, `<`, `<=`, `+`, `-`, `*`, `in`, `contains`, `containsAll`, `containsAny`, `getTag`, `hasTag`;
 ///   `&&`, `||`, `if`
 /// - `.owner`, an attribute; `has=owner.boss`; `like=a*b`; `is=User`

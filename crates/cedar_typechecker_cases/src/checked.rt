@@ -5,12 +5,13 @@ ghost use Rattle.cedar_typechecker_model.specs.Seen.{IsClosed};
 
 use crate::shown::{say_check, say_errors, say_warnings};
 use cedar_expr_functions::Extensions;
+use cedar_expr_leaves::SlotId;
 use cedar_schema_built::ValidatorSchema;
 use cedar_schema_joins::ValidationMode;
 use cedar_store_cases::template;
-use cedar_store_parts::{ValidationError, ValidationWarning};
-use cedar_store_policies::Template;
-use cedar_test_exprs::{kept, say, show};
+use cedar_store_parts::{PolicyID, SlotEnv, ValidationError, ValidationWarning};
+use cedar_store_policies::{Policy, Template};
+use cedar_test_exprs::{both, kept, say, show, uid};
 use cedar_typechecker::{PolicyCheck, RequestEnv, Typechecker, Validator};
 use std::alloc::{AllocError, Global};
 use std::collections::HashSet;
@@ -153,12 +154,45 @@ fn validated(
     verb: &str,
     text: &str,
 ) -> Result<(), AllocError> {
+    if let Some(pass) = verb.strip_prefix("linked_") {
+        return linked_passed(alloc, said, validator, pass, text);
+    }
     if verb == "level" {
         let (level, text) = text.split_once(' ').ok_or(AllocError)?;
         let level = level.parse::<u32>().ok().ok_or(AllocError)?;
         return leveled(alloc, said, validator, &policy(alloc, text)?, level);
     }
     passed(alloc, said, validator, verb, &policy(alloc, text)?)
+}
+
+// Says what the pass over linked policies says: `types` over what slots are bound to, or `fits`.
+fn linked_passed(
+    alloc: Global,
+    said: &mut String,
+    validator: &Validator<'_, '_, '_>,
+    pass: &str,
+    text: &str,
+) -> Result<(), AllocError> {
+    let policy = linked(alloc, text)?;
+    if pass == "types" {
+        let errors = validator.validate_entity_types_in_slots(policy.id(), policy.env())?;
+        return say_errors(alloc, said, errors.as_slice());
+    }
+    let warnings = validator.validate_linked_action_application(&policy)?;
+    say_warnings(said, warnings.as_slice())
+}
+
+// The policy behind `User::a | `, whose principal's slot is bound to this.
+fn linked(alloc: Global, text: &str) -> Result<Policy, AllocError> {
+    let (bound, text) = text.split_once(" | ").ok_or(AllocError)?;
+    let (bound, template) = both(
+        kept(alloc, uid(alloc, bound)),
+        kept(alloc, policy(alloc, text)),
+    )?;
+    let mut env = SlotEnv::new();
+    let _before = env.insert(SlotId::principal(), bound);
+    let id = PolicyID::from_string(alloc, "p")?;
+    Ok(Policy::new(template, Some(id), env))
 }
 
 fn leveled(

@@ -19,7 +19,8 @@ const LINES: &str =
 // A row is a call, what it is asked of, ` : ` and what it says. `type` and `loose_type` tell the type of an expression in the strict and the
 // permissive mode, and `env` those of the parts of the environment of users who view documents. A policy is its scope and, behind ` when `,
 // its body; without a scope it is its body. `check` and `loose` are `typecheck_policy` in the two modes, and `envs` the checks in all
-// environments; `types`, `actions`, `members` and `fits` are passes of the validator, and `level N` is `validate_policy_with_level`.
+// environments; `types`, `actions`, `members` and `fits` are passes of the validator, `linked_types` and
+// `linked_fits` those over a policy whose principal's slot is bound to the uid before it, and `level N` is `validate_policy_with_level`.
 const ROWS: &str = r#"# literals, variables, slots and unknowns
 type true : __cedar::internal::True
 type false : __cedar::internal::False
@@ -180,6 +181,13 @@ fits principal == Group::g when true : fits none, but with `in` in the principal
 fits principal == Doc::d when true : fits none
 fits action == Action::read when true : fits none
 fits principal == ?principal, resource in ?resource when true : nothing
+# of a linked policy what the slot is bound to counts
+linked_types User::a | principal == ?principal when true : nothing
+linked_types Ghost::g | principal == ?principal when true : type Ghost
+linked_fits User::a | principal == ?principal when true : nothing
+linked_fits Group::g | principal in ?principal when true : nothing
+linked_fits Group::g | principal == ?principal when true : fits none, but with `in` in the principal
+linked_fits Doc::d | principal == ?principal when true : fits none
 # steps into the store, and the levels that they need
 level 0 principal principal == : nothing
 level 0 principal .ok : level 1
