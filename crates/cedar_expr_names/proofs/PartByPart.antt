@@ -1,7 +1,8 @@
 -- Reading a name part by part.
-use Rattle.std.proofs.Common.{◌≡◌, ℕ, Bool, true, false, cond, ◌&&◌, ◌||◌, map, List, [], ◌∷◌, ◌++◌, refl, ap, ◌∙◌, Option, Some, None}
+use Rattle.std.proofs.Common.{◌≡◌, ℕ, Bool, true, false, cond, ◌&&◌, ◌||◌, map, List, [], ◌∷◌, ◌++◌, refl, sym, ap, ◌∙◌, Option, Some, None}
 use Rattle.std.specs.List.{list_all, list_any}
-use Rattle.cedar_expr_model.specs.Name.{Text, Name, parts, with_byte, is_identifier, name_of_parts, name_read}
+use Rattle.cedar_expr_model.specs.Name.{Text, Name, parts, with_byte, is_identifier, name_of_parts, name_read, name_text, joined}
+use Rattle.cedar_expr_model.proofs.Reading.{writes_read}
 
 -- the name that is read, with these parts before this text
 abbrev pub read_from : List Text → Text → Option Name
@@ -39,6 +40,13 @@ refuses before rest part more e h = ap (read_parts before) e ∙ ap (λ t. cond 
 
 pub ends : (before : List Text) (rest : Text) → parts rest ≡ rest ∷ [] → is_identifier rest ≡ true → read_from before rest ≡ Some (record { path = before; base = rest })
 ends before rest e h = ap (read_parts before) e ∙ ap (λ t. cond (t && true) (Some (record { path = before; base = rest })) None) h
+
+-- an identifier alone writes a name
+pub alone_shown : (text : Text) (n : Name) → n.path ≡ [] → n.base ≡ text → name_text n ≡ text
+alone_shown text n p b = λ i. joined (p i) (b i)
+
+pub alone : (text : Text) (n : Name) → is_identifier text ≡ true → n.path ≡ [] → n.base ≡ text → name_read text ≡ Some n
+alone text n h p b = writes_read text n (record { parts = (λ i. list_all is_identifier (p i) && is_identifier (b i)) ∙ h; whole = sym (alone_shown text n p b) })
 
 takes_parts : (before : List Text) (part : Text) (ps : List Text) → HasParts ps → is_identifier part ≡ true → read_parts before (part ∷ ps) ≡ read_parts (before ++ part ∷ []) ps
 takes_parts before part [] has h = absurd (cc)

@@ -9,6 +9,7 @@ ghost use Rattle.cedar_expr_names.specs.Views.{plain_name_of, plain_name_loc, ty
 ghost use Rattle.cedar_expr_model.specs.UidOrder.{name_cmp, uid_cmp};
 ghost use Rattle.cedar_expr_names.specs.Refusals.{RefusesPlainText};
 
+use crate::byte_order::{text_eq, text_order};
 use crate::{Loc, Name, NameError, Quoted};
 use std::alloc::{AllocError, Global};
 use std::cmp::Ordering;
@@ -89,7 +90,7 @@ impl Display for EntityType {
 }
 
 /// The id of an entity: any text.
-#[derive(Debug, PartialEq, Eq, PartialOrd, Ord, Hash)]
+#[derive(Debug, Hash)]
 pub struct Eid(RcStr);
 
 // prover: see ARCHITECTURE
@@ -127,6 +128,59 @@ impl Eid {
         ensures { result.now ≡ eid_text self.now }
     {
         self.0.as_str()
+    }
+}
+
+impl PartialEq for Eid {
+    ghost use Rattle.std.specs.Cmp.{on_per, partial_equiv_from_equiv};
+    ghost use Rattle.std.specs.Cmp.Lexicographic.{nat_list_eq_equiv};
+
+    ghost eq = { λ a b. bytes_eq (eid_text a) (eid_text b) };
+
+    ghost laws = { on_per eid_text (partial_equiv_from_equiv nat_list_eq_equiv) };
+
+    fn eq(&self, other: &Eid) -> bool {
+        text_eq(self.0.as_str(), other.0.as_str())
+    }
+}
+
+impl Eq for Eid {
+    ghost use Rattle.std.specs.Cmp.{on_equiv};
+    ghost use Rattle.std.specs.Cmp.Lexicographic.{nat_list_eq_equiv};
+
+    ghost laws = { on_equiv eid_text nat_list_eq_equiv };
+}
+
+impl PartialOrd for Eid {
+    ghost use Rattle.std.specs.Ordering.{nat_cmp};
+    ghost use Rattle.std.specs.Cmp.{on_po};
+    ghost use Rattle.std.specs.Cmp.Lexicographic.{slice_cmp, texts_po};
+
+    ghost partial_cmp = { λ a b. Some (slice_cmp nat_cmp (eid_text a) (eid_text b)) };
+
+    ghost laws = { on_po eid_text texts_po };
+
+    fn partial_cmp(&self, other: &Eid) -> Option<Ordering> {
+        Some(text_order(self.0.as_str(), other.0.as_str()))
+    }
+}
+
+impl Ord for Eid {
+    ghost use Rattle.std.specs.Prelude.{refl};
+    ghost use Rattle.std.specs.Ordering.{nat_cmp};
+    ghost use Rattle.std.specs.Cmp.{on_total};
+    ghost use Rattle.std.specs.Cmp.Lexicographic.{slice_cmp, nat_list_cmp_total, texts_ties};
+
+    ghost cmp = { λ a b. slice_cmp nat_cmp (eid_text a) (eid_text b) };
+
+    ghost total = { on_total eid_text nat_list_cmp_total };
+
+    ghost matches_partial_cmp = { λ a b. refl };
+
+    ghost matches_eq = { λ a b. texts_ties (eid_text a) (eid_text b) };
+
+    fn cmp(&self, other: &Eid) -> Ordering {
+        text_order(self.0.as_str(), other.0.as_str())
     }
 }
 

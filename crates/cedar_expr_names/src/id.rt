@@ -43,6 +43,15 @@ impl Id {
         Ok(Id { text })
     }
 
+    // The identifier of this text, which is one. Fails only when out of memory.
+    pub(crate) fn of_text(alloc: Global, text: &str) -> Result<Id, AllocError>
+        requires { is_identifier text.now ≡ true }
+        ensures { IfOk result (λ i. id_text i ≡ text.now) }
+    {
+        let text = RcStr::from_str(alloc, text)?;
+        Ok(Id { text })
+    }
+
     // The reserved identifier `__cedar`. Fails only when out of memory.
     pub(crate) fn reserved_id(alloc: Global) -> Result<Id, AllocError>
         ensures { IfOk result (λ i. id_text i ≡ reserved) }

@@ -5,8 +5,9 @@ ghost use Rattle.std.specs.Rc.{rc_str_bytes};
 ghost use Rattle.cedar_expr_model.specs.Name.{joined};
 ghost use Rattle.cedar_expr_names.specs.Ids.{id_text};
 
-use crate::reading::{any_reserved, copied_parts, joined_text, read_part, split_part};
-use crate::{Id, Loc, Name, NameError};
+use crate::byte_order::{text_eq, text_order};
+use crate::reading::{any_reserved, copied_parts, joined_text, kept_text, read_part, split_part};
+use crate::{Id, Loc, Name, NameError, is_normalized_ident};
 use std::alloc::{AllocError, Global};
 use std::cmp::Ordering;
 use std::fmt;
@@ -16,14 +17,14 @@ use std::slice::Iter;
 
 // What a name is. Texts are compared, in byte order; places don't count.
 #[derive(Debug)]
-#[derive_where(PartialEq, Eq, PartialOrd, Ord, Hash)]
+#[derive_where(Hash)]
 struct NameParts {
     text: RcStr,
-    #[derive_where(skip(EqHashOrd))]
+    #[derive_where(skip(Hash))]
     path: Vec<Id>,
-    #[derive_where(skip(EqHashOrd))]
+    #[derive_where(skip(Hash))]
     id: Id,
-    #[derive_where(skip(EqHashOrd))]
+    #[derive_where(skip(Hash))]
     loc: Option<Loc>,
     ghost written: { rc_str_bytes text ≡ joined (map id_text path.items) (id_text id) },
 }
@@ -37,6 +38,61 @@ impl Drop for NameParts {
             id: _,
             loc: _,
         } = self;
+    }
+}
+
+impl PartialEq for NameParts {
+    ghost use Rattle.std.specs.Str.{bytes_eq};
+    ghost use Rattle.std.specs.Cmp.{on_per, partial_equiv_from_equiv};
+    ghost use Rattle.std.specs.Cmp.Lexicographic.{nat_list_eq_equiv};
+
+    ghost eq = { λ a b. bytes_eq (rc_str_bytes a.text) (rc_str_bytes b.text) };
+
+    ghost laws = { on_per (λ p. rc_str_bytes p.text) (partial_equiv_from_equiv nat_list_eq_equiv) };
+
+    fn eq(&self, other: &NameParts) -> bool {
+        text_eq(self.text.as_str(), other.text.as_str())
+    }
+}
+
+impl Eq for NameParts {
+    ghost use Rattle.std.specs.Cmp.{on_equiv};
+    ghost use Rattle.std.specs.Cmp.Lexicographic.{nat_list_eq_equiv};
+
+    ghost laws = { on_equiv (λ p. rc_str_bytes p.text) nat_list_eq_equiv };
+}
+
+impl PartialOrd for NameParts {
+    ghost use Rattle.std.specs.Prelude.{Some};
+    ghost use Rattle.std.specs.Ordering.{nat_cmp};
+    ghost use Rattle.std.specs.Cmp.{on_po};
+    ghost use Rattle.std.specs.Cmp.Lexicographic.{slice_cmp, texts_po};
+
+    ghost partial_cmp = { λ a b. Some (slice_cmp nat_cmp (rc_str_bytes a.text) (rc_str_bytes b.text)) };
+
+    ghost laws = { on_po (λ p. rc_str_bytes p.text) texts_po };
+
+    fn partial_cmp(&self, other: &NameParts) -> Option<Ordering> {
+        Some(self.cmp(other))
+    }
+}
+
+impl Ord for NameParts {
+    ghost use Rattle.std.specs.Prelude.{refl};
+    ghost use Rattle.std.specs.Ordering.{nat_cmp};
+    ghost use Rattle.std.specs.Cmp.{on_total};
+    ghost use Rattle.std.specs.Cmp.Lexicographic.{slice_cmp, nat_list_cmp_total, texts_ties};
+
+    ghost cmp = { λ a b. slice_cmp nat_cmp (rc_str_bytes a.text) (rc_str_bytes b.text) };
+
+    ghost total = { on_total (λ p. rc_str_bytes p.text) nat_list_cmp_total };
+
+    ghost matches_partial_cmp = { λ a b. refl };
+
+    ghost matches_eq = { λ a b. texts_ties (rc_str_bytes a.text) (rc_str_bytes b.text) };
+
+    fn cmp(&self, other: &NameParts) -> Ordering {
+        text_order(self.text.as_str(), other.text.as_str())
     }
 }
 
@@ -75,8 +131,7 @@ impl InternalName {
         ensures path { IfOk result (λ n. (name_of n).path ≡ map id_text path.items) }
         ensures place { IfOk result (λ n. name_loc n ≡ loc) }
     {
-        let text = joined_text(alloc, path.as_slice(), &basename)?;
-        let text = RcStr::from_string(text)?;
+        let text = kept_text(alloc, path.as_slice(), &basename)?;
         let parts = NameParts {
             text,
             path,
@@ -94,6 +149,12 @@ impl InternalName {
         ensures place { IfOk result (λ n. name_loc n ≡ None) }
         ensures refused { IfErr result (λ e. RefusesText text.now e) }
     {
+        if is_normalized_ident(text) {
+            return match InternalName::of_identifier(alloc, text) {
+                Ok(name) => Ok(name),
+                Err(AllocError) => Err(NameError::OutOfMemory),
+            };
+        }
         let mut path = Vec::new(alloc);
         let mut rest = text;
         while let Some((part, next)) = split_part(rest) {
@@ -102,6 +163,19 @@ impl InternalName {
         }
         let base = Id::from_normalized_str(alloc, rest)?;
         InternalName::new(alloc, base, path, None).map_err(|_| NameError::OutOfMemory)
+    }
+
+    // The name that an identifier alone writes. Fails only when out of memory.
+    #[tactic(auto, using(crate::proofs::PartByPart::alone, crate::proofs::PartByPart::alone_shown))]
+    fn of_identifier(alloc: Global, text: &str) -> Result<InternalName, AllocError>
+        requires { is_identifier text.now ≡ true }
+        ensures read { IfOk result (λ n. name_read text.now ≡ Some (name_of n)) }
+        ensures shown { IfOk result (λ n. name_text (name_of n) ≡ text.now) }
+        ensures place { IfOk result (λ n. name_loc n ≡ None) }
+    {
+        let id = Id::of_text(alloc, text)?;
+        let name = InternalName::unqualified_name(alloc, id)?;
+        Ok(name)
     }
 
     /// Reads a name of one identifier, which has to be the whole text. Refuses any other text, and fails when out of memory.

@@ -4,6 +4,7 @@
 #![tactic(auto)]
 
 mod any_id;
+mod byte_order;
 mod entity;
 mod err;
 mod id;

@@ -3,12 +3,14 @@
 ghost use Rattle.std.specs.Prelude.{◌≡◌, ◌++◌, [], ◌∷◌, map, length, true, IfOk, IfErr, MatchOption, ◌<◌, string_bytes};
 ghost use Rattle.std.specs.List.{list_any};
 ghost use Rattle.std.specs.Str.{bytes_eq};
+ghost use Rattle.std.specs.Rc.{rc_str_bytes};
 ghost use Rattle.cedar_expr_model.specs.Name.{is_identifier, joined, parts, reserved};
 ghost use Rattle.cedar_expr_names.specs.Ids.{id_text};
 ghost use Rattle.cedar_expr_names.specs.Refusals.{RefusesIdentifier};
 
 use crate::{Id, NameError};
 use std::alloc::{AllocError, Global};
+use std::rc::RcStr;
 
 // The text of a name: each part and the double colon that ends it, and then the base.
 pub fn joined_text(alloc: Global, path: &[Id], base: &Id) -> Result<String, AllocError>
@@ -21,6 +23,16 @@ pub fn joined_text(alloc: Global, path: &[Id], base: &Id) -> Result<String, Allo
     }
     text.push_str(base.as_str())?;
     Ok(text)
+}
+
+// The text of a name, to be kept. A name without a path shares its base's.
+pub fn kept_text(alloc: Global, path: &[Id], base: &Id) -> Result<RcStr, AllocError>
+    ensures { IfOk result (λ t. rc_str_bytes t ≡ joined (map id_text path.now) (id_text base.now)) }
+{
+    match path {
+        [] => Ok(base.clone()?.into_smolstr()),
+        [_, ..] => Ok(RcStr::from_string(joined_text(alloc, path, base)?)?),
+    }
 }
 
 // These identifiers and the one that the text is.
