@@ -1,0 +1,4 @@
+pub mod External
+pub mod Faults
+pub mod Lines
+pub mod Explains
