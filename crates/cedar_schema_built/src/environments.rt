@@ -27,7 +27,19 @@ impl ValidatorSchema {
     }
 }
 
-// Puts the environments of the action behind those that were found. Fails only when out of memory.
+/// The types of the requests of an action: each of its principal types with each of its resource types. Fails only when out of memory.
+pub fn request_types_of(
+    alloc: Global,
+    action: &ValidatorActionId,
+) -> Result<Vec<RequestType>, AllocError>
+    ensures { IfOk result (λ rs. map request_kind rs.items ≡ kinds_of (action_seen action.now)) }
+{
+    let mut found = Vec::new(alloc);
+    add_environments(&mut found, action)?;
+    Ok(found)
+}
+
+// Appends the environments of the action to those that were found. Fails only when out of memory.
 fn add_environments(
     found: &mut Vec<RequestType>,
     action: &ValidatorActionId,
@@ -40,7 +52,7 @@ fn add_environments(
     Ok(())
 }
 
-// Puts the environments of the action with principals of this type behind those that were found.
+// Appends the environments of the action with principals of this type to those that were found.
 fn add_kinds(
     found: &mut Vec<RequestType>,
     action: &ValidatorActionId,
@@ -54,7 +66,7 @@ fn add_kinds(
     Ok(())
 }
 
-// Puts the environment of the action with a principal and a resource of these types behind those that were found.
+// Appends the environment of the action with a principal and a resource of these types to those that were found.
 fn add_kind(
     found: &mut Vec<RequestType>,
     action: &EntityUID,

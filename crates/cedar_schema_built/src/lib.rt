@@ -22,6 +22,7 @@ mod schema;
 mod unresolved;
 
 pub use common_type::LocatedCommonType;
+pub use environments::request_types_of;
 pub use iterators::{ActionGroups, ActionsFor, Ancestors};
 pub use located_type::LocatedType;
 pub use namespace::LocatedNamespace;
