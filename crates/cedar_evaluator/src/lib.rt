@@ -58,9 +58,13 @@ pub mod authorizer {
 pub mod evaluator {
     pub use cedar_evaluator_contexts::RestrictedEvaluator;
     pub use cedar_evaluator_core::Evaluator;
+    use cedar_evaluator_errors::EvaluationError;
     pub use cedar_evaluator_operators::{
         FunctionTable, Left, V, any_entity_type, binary_arith, binary_relation, unary_app,
     };
+
+    /// What an evaluation gives, or why it gives nothing.
+    pub type Result<T> = std::result::Result<T, EvaluationError>;
 
     /// Why an expression has no value.
     pub mod err {
@@ -81,6 +85,9 @@ pub mod extensions {
         FuncMultiplyDefinedError, MultipleConstructorsSameSignatureError,
     };
     pub use cedar_expr_functions::{ExtTable, Extensions};
+
+    /// What a look-up in a table gives, or why it gives nothing.
+    pub type Result<T> = std::result::Result<T, ExtensionFunctionLookupError>;
 
     /// Pairs of which no key is repeated.
     pub mod util {

@@ -41,6 +41,11 @@ pub use cedar_expr_leaves::laws::{
     elements_are_compared, literals_are_compared, patterns_are_compared, slots_are_compared,
     variables_are_compared,
 };
+pub use cedar_expr_leaves::name_laws::{
+    names_are_equal, names_are_hashed, names_are_ordered, texts_are_equal, texts_are_hashed,
+    texts_are_ordered,
+};
+pub use cedar_expr_leaves::raw_laws::raw_names_are_compared;
 use cedar_expr_leaves::{ConditionalName, NonEmpty, ReferenceType, Slot};
 use cedar_expr_names::Loc;
 use cedar_expr_partial::PartialValue;
@@ -53,7 +58,7 @@ pub use cedar_expr_trees::laws::expressions_are_compared;
 use cedar_expr_trees::{Expr, Unknown};
 pub use cedar_expr_values::laws::{
     core_types_are_compared, extension_values_are_compared, sets_are_their_members,
-    values_are_canonical, values_are_compared, values_are_hashed,
+    values_are_canonical, values_are_compared, values_are_hashed, values_are_in_range,
 };
 use cedar_expr_values::{ExtValue, ExtensionValue, RepresentableExtensionValue, Value};
 use std::hash::Hash;

@@ -27,7 +27,17 @@ ghost use Rattle.cedar_schema_entries.specs.declared.applies_to.AppliesTo.{Appli
 ghost use Rattle.cedar_schema.specs.Laws.{SubtypesReflexive, SubtypesTransitive, SubtypesAntisymmetric, JoinIsAbove, JoinIsLeast, JoinSwaps, ReductionIsOfMembers, SupertypesKeepValues, DisjointShareNoValue};
 
 use cedar_expr_values::ExtensionValue;
+pub use cedar_schema_built::laws::{
+    external_declarations_are_refused, listed_are_declared, new_keeps_the_schema,
+    order_of_listed_is_free, schemas_are_in_order,
+};
 use cedar_schema_entries::AppliesTo;
+pub use cedar_schema_entries::laws::{actions_are_in_order, entity_types_are_in_order};
+pub use cedar_schema_sound::attribute_laws::{attributes_are_kept, built_attributes_are_plain};
+pub use cedar_schema_sound::laws::{
+    built_schemas_are_not_refused, built_schemas_are_sound, order_of_fragments_is_free,
+    schemas_are_built_in_each_order,
+};
 use cedar_schema_types::{
     AttributeType, Attributes, BoolType, CoreAttributeType, CoreAttributes, CoreSchemaType,
     EntityKind, EntityLUB, OpenTag, Type,

@@ -48,7 +48,8 @@ pub mod schema {
     pub use cedar_schema_builder::{DefsOfFragments, extension_types};
     pub use cedar_schema_built::{
         ActionGroups, ActionsFor, Ancestors, LocatedCommonType, LocatedNamespace, LocatedType,
-        UnresolvedDeclaration, UnresolvedDeclarations, ValidatorSchema,
+        UnresolvedDeclaration, UnresolvedDeclarations, ValidatorSchema, located_common_types,
+        located_namespaces, request_types_of,
     };
     pub use cedar_schema_decl::{
         AllDefs, CommonTypeDefs, EntityTypeFragment, EntityTypesDef, resolve,

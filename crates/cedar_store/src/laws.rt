@@ -19,6 +19,9 @@ pub use cedar_store_parts::laws::{
     annotations_are_compared, bindings_are_compared, policy_ids_agree, references_are_compared,
     scopes_are_compared, sets_of_annotations_are_compared,
 };
+pub use cedar_store_parts::record_laws::{
+    errors_agree, modes_agree, request_types_agree, warnings_agree,
+};
 use cedar_store_parts::{Effect, PrincipalOrResource, UnexpectedSlotError};
 pub use cedar_store_policies::laws::{ids_are_distinct, policies_are_linked_templates};
 use std::hash::Hash;

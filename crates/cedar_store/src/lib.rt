@@ -14,9 +14,9 @@ pub mod annotation {
 pub mod entities {
     pub use cedar_store_entities::{Dereference, Entities};
 
-    /// Why entities make no store.
+    /// Why entities make no store, and why an absence isn't recorded.
     pub mod err {
-        pub use cedar_store_entities::EntitiesError;
+        pub use cedar_store_entities::{AbsenceError, EntitiesError};
     }
 }
 
@@ -54,7 +54,7 @@ pub mod validation {
 }
 
 pub use annotation::{Annotation, Annotations};
-pub use entities::err::EntitiesError;
+pub use entities::err::{AbsenceError, EntitiesError};
 pub use entities::{Dereference, Entities};
 pub use entity::Entity;
 pub use policy::{

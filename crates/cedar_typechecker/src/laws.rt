@@ -6,7 +6,9 @@ ghost use Rattle.cedar_typechecker.specs.Laws.{BuiltAreClosed, BuiltAnswerAlike,
 use cedar_schema_built::ValidatorSchema;
 use cedar_schema_built::laws::schemas_are_in_order;
 use cedar_schema_model::sound_laws::sound_is_decided;
+pub use cedar_typechecker_environments::laws::capabilities_agree;
 use cedar_typechecker_model::alike_laws::seen_schemas_answer_alike;
+pub use cedar_typechecker_scopes::laws::scope_passes_are_exact;
 
 /// What is built of fragments is closed under descent, and answers as the schema of the declarations that they write.
 pub fn built_schemas_answer_alike()

@@ -18,7 +18,7 @@ mod validator;
 pub use asked::{SchemaAndFunctions, TypingSchema, World};
 pub use cedar_typechecker_environments::RequestEnv;
 pub use level::EntityDerefLevel;
-pub use policies::{PolicyCheck, RequestEnvChecks, Validated};
+pub use policies::{PolicyCheck, PolicyFindings, PolicyViolation, RequestEnvChecks, Validated};
 pub use typecheck_answer::{Capability, CapabilitySet, TypecheckAnswer};
 pub use typechecker::Typechecker;
 pub use validator::Validator;
@@ -48,8 +48,8 @@ pub mod typecheck_answer {
 /// Policies over any schema that can be asked.
 pub mod policies {
     pub use cedar_typechecker_policies::{
-        PolicyCheck, RequestEnvChecks, Validated, check_in, typecheck_policy,
-        validate_policy_with_level,
+        PolicyCheck, PolicyFindings, PolicyViolation, RequestEnvChecks, Subject, Validated,
+        check_in, check_policy, check_policy_by, typecheck_policy, validate_policy_with_level,
     };
     pub use cedar_typechecker_scopes::{
         validate_action_ids, validate_entity_types, validate_entity_types_in_slots,
