@@ -32,13 +32,13 @@ with_robots [{"": {
     "Doc": {"attrs": {"owner": {"entity": "User"}}}, "Robot": {}},
 "actions": {"view": {"principals": ["User", "Robot"], "resources": ["Doc"]}}}}]
 
-with_a_rank [{"": {
-"entityTypes": {"User": {"attrs": {"r": {"ext": "rank"}}}},
+with_a_tier [{"": {
+"entityTypes": {"User": {"attrs": {"r": {"ext": "tier"}}}},
 "actions": {"view": {"principals": ["User"], "resources": ["User"]}}}}]
 
-rank_in_context [{"": {
+tier_in_context [{"": {
 "entityTypes": {"User": {}},
-"actions": {"go": {"principals": ["User"], "resources": ["User"], "context": {"record": {"r": {"ext": "rank"}}}}}}}]
+"actions": {"go": {"principals": ["User"], "resources": ["User"], "context": {"record": {"r": {"ext": "tier"}}}}}}}]
 
 number_in_context [{"": {
 "entityTypes": {"User": {}},
@@ -82,7 +82,7 @@ of_a_chain [
 {"uid": ["User", "a"], "attrs": {"boss": ["uid", "User", "z"], "ok": true}},
 {"uid": ["User", "z"], "attrs": {"boss": ["uid", "User", "z"], "ok": true}}]
 
-of_a_rank [{"uid": ["User", "a"], "attrs": {"r": ["call", "rank", "007"]}}]
+of_a_tier [{"uid": ["User", "a"], "attrs": {"r": ["call", "tier", "007"]}}]
 
 empty []"#;
 

@@ -10,8 +10,6 @@ mod deep;
 #[cfg(test)]
 mod open_names;
 #[cfg(test)]
-mod ranks;
-#[cfg(test)]
 mod rounds;
 #[cfg(test)]
 mod rows;
@@ -19,3 +17,5 @@ mod rows;
 mod runs;
 #[cfg(test)]
 mod streams;
+#[cfg(test)]
+mod tiers;
