@@ -73,10 +73,10 @@ asks_nothing c f asked none opens = record {
 }
 
 -- a session of the course that was opened runs it
-pub run_by : {B : _} {F : _} {γ : _} {H : Type 0} (g : Gate B F γ) (q : Request) (given : List Step) (IsHonest : H → Type 0) (answers : H → Answers) (h : H) (e : SessionAt (Gate B F γ)) → opens (request_of q)
+pub run_by : {B : _} {F : _} {γ : _} {H : Type 0} (g : Gate B F γ) (q : Request) (given : List Step) (answers : H → Answers) (h : H) (e : SessionAt (Gate B F γ)) → opens (request_of q)
     → ((d : Course) (steps : List Step) → IsCourseOf g q steps d → Stands (λ (a : Gate B F γ). IsSetupOf a) (λ (a : Gate B F γ). accepted_in a) d at_start e)
-    → (c : Course) → IsRunAt g q given IsHonest answers h c → IsRunBy (Stands (λ (a : Gate B F γ). IsSetupOf a) (λ (a : Gate B F γ). accepted_in a)) e given IsHonest answers h c
-run_by g q given IsHonest answers h e opened stands c r = record {
+    → (c : Course) → IsRunAt g q given answers h c → IsRunBy (Stands (λ (a : Gate B F γ). IsSetupOf a) (λ (a : Gate B F γ). accepted_in a)) e given answers h c
+run_by g q given answers h e opened stands c r = record {
   session = record { opens = subst opens r.course.start opened; stands = stands c given r.course; steps = r.course.steps; bound = r.course.bound };
   host = r.host;
 }

@@ -59,9 +59,8 @@ module _ (c : Course) (before after : Text) where
   stop_adds (Answering n t) added (f, e, run) = refused (entries_of t.entries.items) (answer_refused f) (codes "answer") n _ run e refl refl added
 
 -- the host of the store of a course
-pub store_hosts : (c : Course) (es : Entities) (h : StoreHost) → store_of h ≡ stored (store_made es) → IsStore c es → IsHost {H = StoreHost} (λ h. Unit {0}) store_of c at_start c.steps h
+pub store_hosts : (c : Course) (es : Entities) (h : StoreHost) → store_of h ≡ stored (store_made es) → IsStore c es → IsHost store_of c at_start c.steps h
 store_hosts c es h same s = record {
-  honest = tt;
   store = λ u. s.each u ∙ ap (λ (a : Answers). option_map bare_entity (a u)) (sym same);
   represented = λ t us u e m w j k. entity_represented c.functions.table e (s.written u e (ap (λ (a : Answers). a u) (sym same) ∙ k));
 }

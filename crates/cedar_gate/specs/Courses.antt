@@ -38,14 +38,14 @@ pub record IsCourseOf {B : _} {F : _} {γ : _} (g : Gate B F γ) (q : Request) (
   pub bound : BindRepresented c c.steps
   pub store : (u : Uid) (e : Entity V) → c.store u ≡ Some e → holds_values e ≡ true
 
--- The host answers for such a course.
-pub record IsRunAt {B : _} {F : _} {γ : _} {H : Type 0} (g : Gate B F γ) (q : Request) (given : List Step) (IsHonest : H → Type 0) (answers : H → Answers) (h : H) (c : Course) : Type 0 where
+-- The host's store is that of such a course.
+pub record IsRunAt {B : _} {F : _} {γ : _} {H : Type 0} (g : Gate B F γ) (q : Request) (given : List Step) (answers : H → Answers) (h : H) (c : Course) : Type 0 where
   pub course : IsCourseOf g q given c
-  pub host : IsHost IsHonest answers c at_start c.steps h
+  pub host : IsHost answers c at_start c.steps h
 
--- for each course of a request at the gate, and for each with these steps that the host answers for
+-- for each course of a request at the gate, and for each with these steps whose store is the host's
 abbrev pub InEachCourseAt : {B : _} {F : _} {γ : _} → Gate B F γ → Request → (Course → Type 0) → Type 0
 InEachCourseAt g q holds = (c : Course) (given : List Step) → IsCourseOf g q given c → holds c
 
-abbrev pub InEachRunAt : {B : _} {F : _} {γ : _} {H : Type 0} → Gate B F γ → Request → List Step → (H → Type 0) → (H → Answers) → H → (Course → Type 0) → Type 0
-InEachRunAt g q given IsHonest answers h holds = (c : Course) → IsRunAt g q given IsHonest answers h c → holds c
+abbrev pub InEachRunAt : {B : _} {F : _} {γ : _} {H : Type 0} → Gate B F γ → Request → List Step → (H → Answers) → H → (Course → Type 0) → Type 0
+InEachRunAt g q given answers h holds = (c : Course) → IsRunAt g q given answers h c → holds c

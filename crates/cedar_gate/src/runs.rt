@@ -46,10 +46,11 @@ fn not_opened(alloc: Global, fault: OpenFault) -> RunFault
 
 /// Runs a request at a gate: opens a session, does the steps in their order, loads from the host until nothing is wanted, and answers.
 ///
-/// What it hands out is a run of the definitions, and keeps the promises of the headline, answered or stopped: no uid is asked for twice,
-/// only what is near is, few rounds follow the last binding, each decision that is owed is given, the transcript is legal in every world that
-/// completes what was bound and answered, and the answer is that of the whole store. The host was asked for the rounds, and where the run
-/// stopped for one list more at most: what was wanted then, if the session refused what was answered to it.
+/// Where the host is honest as the run ends, what it hands out is a run of the definitions over the store that the host had, and keeps the
+/// promises of the headline, answered or stopped: no uid is asked for twice, only what is near is, few rounds follow the last binding, each
+/// decision that is owed is given, the transcript is legal in every world that completes what was bound and answered, and the answer is that of
+/// the whole store. Whatever the host, it was asked for the rounds, and where the run stopped for one list more at most: what was wanted then,
+/// of an honest host, if the session refused what was answered to it.
 ///
 /// # Errors
 ///
@@ -63,10 +64,10 @@ pub fn run<H: Host>(
     host: &mut H,
 ) -> Result<Transcript, RunFault>
     requires { H.faults host.old < u64.MAX }
-    ensures run { InEachRunAt gate.now request steps.items H.honest H.store host.old (λ c. IsRunOf c result) }
-    ensures promises { InEachRunAt gate.now request steps.items H.honest H.store host.old (λ c. KeepsRun c result) }
+    ensures run { H.honest host.new → InEachRunAt gate.now request steps.items H.store host.old (λ c. IsRunOf c result) }
+    ensures promises { H.honest host.new → InEachRunAt gate.now request steps.items H.store host.old (λ c. KeepsRun c result) }
     ensures host { HostSaw (H.asked host.old) (H.asked host.new) (H.faults host.old) (H.faults host.new) result }
-    ensures asked { InEachRunAt gate.now request steps.items H.honest H.store host.old (λ c. CourseOpens c → AsksWell c (H.asked host.old) (H.asked host.new) result) }
+    ensures asked { H.honest host.new → InEachRunAt gate.now request steps.items H.store host.old (λ c. CourseOpens c → AsksWell c (H.asked host.old) (H.asked host.new) result) }
     ensures answered { IfOk result (λ t. is_some t.answer ≡ true) }
     ensures no_answer { IfErr result (λ f. (run_fault_transcript f).answer ≡ None) }
 {

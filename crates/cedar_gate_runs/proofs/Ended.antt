@@ -62,6 +62,6 @@ module _ {E : Type 0} (Stands : Course → State → E → Type 0) (c : Course) 
       let added : after ≡ h.entries = h.added ∙ ap (λ zs. zs ++ h.entries) none in
       subst (λ zs. HasStopped (session_of c) c.submission.policies at_start zs after stop) o.steps (subst (λ zs. HasStopped (session_of c) c.submission.policies at_start (steps_of steps) zs stop) (sym added) h.stopped)
 
--- the host of a run answers for the steps that were given
-pub host_given : {E H : Type 0} (Stands : Course → State → E → Type 0) (IsHonest : H → Type 0) (answers : H → Answers) (c : Course) (e : E) (steps : List code.Step) (h : H) → IsRunBy Stands e steps IsHonest answers h c → IsHost IsHonest answers c at_start (steps_of steps) h
-host_given Stands IsHonest answers c e steps h by = subst (λ zs. IsHost IsHonest answers c at_start zs h) (sym by.session.steps) by.host
+-- the host of a run is one through the steps that were given
+pub host_given : {E H : Type 0} (Stands : Course → State → E → Type 0) (answers : H → Answers) (c : Course) (e : E) (steps : List code.Step) (h : H) → IsRunBy Stands e steps answers h c → IsHost answers c at_start (steps_of steps) h
+host_given Stands answers c e steps h by = subst (λ zs. IsHost answers c at_start zs h) (sym by.session.steps) by.host

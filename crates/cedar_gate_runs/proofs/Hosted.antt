@@ -1,5 +1,5 @@
 -- What an honest host answers is what the store of the setup answers.
-use Rattle.std.proofs.Common.{◌≡◌, ◌↔◌, List, [], ◌∷◌, ◌++◌, map, Option, Some, None, refl, sym, ap, ◌∙◌, subst}
+use Rattle.std.proofs.Common.{◌≡◌, List, [], ◌∷◌, ◌++◌, map, Option, Some, None, refl, sym, ap, ◌∙◌, subst}
 use Rattle.std.specs.Prelude.{Contains, IfSome, option_map}
 use Rattle.cedar_expr_names.specs.Views.{uid_of}
 use Rattle.cedar_expr_names.specs.declared.entity.EntityUID.{EntityUID}
@@ -21,11 +21,14 @@ use Rattle.cedar_gate_model.specs.Transcript.{Step, Entry, round, bound, decided
 use Rattle.cedar_gate_runs.specs.Courses.{DidSteps, HostStays, IsHost, IsMoment}
 use Rattle.cedar_gate_runs.specs.Supplies.{supplied_pair, supplied_of, supplied_uids, AreAnswers}
 
--- a host whose store and honesty stay
-pub host_stays : {H : Type 0} (IsHonest : H → Type 0) (answers : H → Answers) (g h : H) → answers h ≡ answers g → IsHonest h ↔ IsHonest g → HostStays IsHonest answers g h
-host_stays IsHonest answers g h same both c s steps i =
+-- one that was honest before another moment, and before this one
+pub stays_on : {H : Type 0} (IsHonest : H → Type 0) (answers : H → Answers) (g h k : H) → HostStays IsHonest answers g h → HostStays IsHonest answers h k → HostStays IsHonest answers g k
+stays_on IsHonest answers g h k first second honest = let b = second honest in let a = first b.0 in (a.0, b.1 ∙ a.1)
+
+-- a host with the same store has that of the course
+pub host_with : {H : Type 0} (answers : H → Answers) (c : Course) (s : State) (steps : List Step) (g h : H) → answers h ≡ answers g → IsHost answers c s steps g → IsHost answers c s steps h
+host_with answers c s steps g h same i =
     record {
-      honest = both.1 i.honest;
       store = λ u. i.store u ∙ ap (λ (a : Answers). option_map bare_entity (a u)) (sym same);
       represented = λ t us u e m w j k. i.represented t us u e m w j (ap (λ (a : Answers). a u) (sym same) ∙ k);
     }
@@ -46,11 +49,10 @@ none_done c s t (step ∷ done) rest es split did = cc
 now : (c : Course) (s : State) → IsMoment c s [] s
 now c s = record { done = []; rest = []; split = refl; entries = []; rounds = []; state = s; did = nothing (DecidesInPart (session_of c) c.submission.policies) (session_of c) s; loaded = refl }
 
-module _ {H : Type 0} (IsHonest : H → Type 0) (answers : H → Answers) (c : Course) (s t : State) (h : H) where
-  -- a host that answers for steps does so for the rounds after some of them
-  pub host_after : (steps done rest : List Step) (es : List Entry) → done ++ rest ≡ steps → DidSteps c s done es t → IsHost IsHonest answers c s steps h → IsHost IsHonest answers c t [] h
+module _ {H : Type 0} (answers : H → Answers) (c : Course) (s t : State) (h : H) where
+  -- a host of a course through steps is one through the rounds after some of them
+  pub host_after : (steps done rest : List Step) (es : List Entry) → done ++ rest ≡ steps → DidSteps c s done es t → IsHost answers c s steps h → IsHost answers c t [] h
   host_after steps done rest es split did i = record {
-    honest = i.honest;
     store = i.store;
     represented = λ u us v e m.
         i.represented u us v e (record {
@@ -65,10 +67,9 @@ module _ {H : Type 0} (IsHonest : H → Type 0) (answers : H → Answers) (c : C
         });
   }
 
-  -- and after rounds for those that follow
-  pub host_loaded : (es : List Entry) → Loaded (session_of c) s es t → IsHost IsHonest answers c s [] h → IsHost IsHonest answers c t [] h
+  -- and after rounds through those that follow
+  pub host_loaded : (es : List Entry) → Loaded (session_of c) s es t → IsHost answers c s [] h → IsHost answers c t [] h
   host_loaded es loaded i = record {
-    honest = i.honest;
     store = i.store;
     represented = λ u us v e m.
         let rest : Loaded (session_of c) t m.rounds u = subst (λ r. Loaded (session_of c) r m.rounds u) (none_done c t m.state m.done m.rest m.entries m.split m.did) m.loaded in
@@ -120,7 +121,7 @@ held_by : (u : Uid) (o : Option (world.Entity Made)) (p : Uid × world.Entity Ma
 held_by u None p h = cc
 held_by u (Some e) p h = let q : (u, e) ≡ p = cc in ap (λ (z : Uid × world.Entity Made). Some z.1) q
 
-module _ {H : Type 0} (IsHonest : H → Type 0) (answers : H → Answers) (c : Course) (s : State) (h : H) (i : IsHost IsHonest answers c s [] h) (ps : List (EntityUID × Option Entity)) (us : List Uid) (e : map answered_of ps ≡ map (answer_from (answers h)) us) where
+module _ {H : Type 0} (answers : H → Answers) (c : Course) (s : State) (h : H) (i : IsHost answers c s [] h) (ps : List (EntityUID × Option Entity)) (us : List Uid) (e : map answered_of ps ≡ map (answer_from (answers h)) us) where
   pub supplied_is : supplied_of ps ≡ supplied_by (session_of c) us
   supplied_is = all_told ps ∙ ap (map without_calls) e ∙ answers_bare (session_of c) (answers h) i.store us
 

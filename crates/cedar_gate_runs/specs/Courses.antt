@@ -61,17 +61,16 @@ pub record IsMoment (c : Course) (s : State) (steps : List Step) (t : State) : T
   pub did : DidSteps c s done entries state
   pub loaded : Loaded (session_of c) state rounds t
 
--- The host is honest, and answers from the store of the course. In what it answers to what is wanted at a moment of the run, the extension
--- values are what the calls of the table give.
-pub record IsHost {H : Type 0} (IsHonest : H → Type 0) (answers : H → Answers) (c : Course) (s : State) (steps : List Step) (h : H) : Type 0 where
-  pub honest : IsHonest h
+-- The host's store is that of the course. In what it has for what is wanted at a moment of the run, the extension values are what the calls
+-- of the table give.
+pub record IsHost {H : Type 0} (answers : H → Answers) (c : Course) (s : State) (steps : List Step) (h : H) : Type 0 where
   pub store : (u : Uid) → c.store u ≡ option_map bare_entity (answers h u)
   pub represented : (t : State) (us : List Uid) (u : Uid) (e : world.Entity Made) → IsMoment c s steps t → IsWantedList (session_of c) t us → Contains us u
       → answers h u ≡ Some e → IsEntityRepresented c.functions.table e
 
--- a host that answers for a course still does
+-- A host that is honest now was honest before, and its store is the same.
 abbrev pub HostStays : {H : Type 0} → (H → Type 0) → (H → Answers) → H → H → Type 0
-HostStays IsHonest answers g h = (c : Course) (s : State) (steps : List Step) → IsHost IsHonest answers c s steps g → IsHost IsHonest answers c s steps h
+HostStays IsHonest answers g h = IsHonest h → IsHonest g × (answers h ≡ answers g)
 
 -- The course opens; the session stands at its start, and these are its steps.
 pub record IsOf {E : Type 0} (Stands : Course → State → E → Type 0) (c : Course) (e : E) (given : List code.Step) : Type 0 where
@@ -80,11 +79,11 @@ pub record IsOf {E : Type 0} (Stands : Course → State → E → Type 0) (c : C
   pub steps : steps_of given ≡ c.steps
   pub bound : BindRepresented c c.steps
 
--- The session and the steps are those of the course, and the host answers for it.
-pub record IsRunBy {E : Type 0} {H : Type 0} (Stands : Course → State → E → Type 0) (e : E) (given : List code.Step) (IsHonest : H → Type 0) (answers : H → Answers) (h : H) (c : Course) : Type 0 where
+-- The session and the steps are those of the course, and the host's store too.
+pub record IsRunBy {E : Type 0} {H : Type 0} (Stands : Course → State → E → Type 0) (e : E) (given : List code.Step) (answers : H → Answers) (h : H) (c : Course) : Type 0 where
   pub session : IsOf Stands c e given
-  pub host : IsHost IsHonest answers c at_start c.steps h
+  pub host : IsHost answers c at_start c.steps h
 
 -- for each course of which this is a run
-abbrev pub InEachRun : {E : Type 0} → {H : Type 0} → (Course → State → E → Type 0) → E → List code.Step → (H → Type 0) → (H → Answers) → H → (Course → Type 0) → Type 0
-InEachRun Stands e given IsHonest answers h holds = (c : Course) → IsRunBy Stands e given IsHonest answers h c → holds c
+abbrev pub InEachRun : {E : Type 0} → {H : Type 0} → (Course → State → E → Type 0) → E → List code.Step → (H → Answers) → H → (Course → Type 0) → Type 0
+InEachRun Stands e given answers h holds = (c : Course) → IsRunBy Stands e given answers h c → holds c

@@ -34,13 +34,13 @@ use Rattle.cedar_gate_runs.specs.declared.transcript.Entry.{Entry}
 abbrev pub AtEachState : {E : Type 0} → (Course → State → E → Type 0) → E → (Course → State → Type 0) → Type 0
 AtEachState Stands e holds = (c : Course) (s : State) → Stands c s e → holds c s
 
--- at each such state, where the host answers for the course
-abbrev pub OverHost : {E H : Type 0} → (Course → State → E → Type 0) → (H → Type 0) → (H → Answers) → E → H → (Course → State → Type 0) → Type 0
-OverHost Stands IsHonest answers e h holds = (c : Course) (s : State) → Stands c s e → IsHost IsHonest answers c s [] h → holds c s
+-- at each such state, where the host's store is that of the course
+abbrev pub OverHost : {E H : Type 0} → (Course → State → E → Type 0) → (H → Answers) → E → H → (Course → State → Type 0) → Type 0
+OverHost Stands answers e h holds = (c : Course) (s : State) → Stands c s e → IsHost answers c s [] h → holds c s
 
--- at each such state, where the host answers for the course through these steps, and what they bind is represented
-abbrev pub OverSteps : {E H : Type 0} → (Course → State → E → Type 0) → (H → Type 0) → (H → Answers) → E → H → Vec Step Global → (Course → State → List model.Step → Type 0) → Type 0
-OverSteps Stands IsHonest answers e h steps holds = (c : Course) (s : State) → Stands c s e → IsHost IsHonest answers c s (steps_of steps.items) h → BindRepresented c (steps_of steps.items) → holds c s (steps_of steps.items)
+-- at each such state, where the host's store is that of the course through these steps, and what they bind is represented
+abbrev pub OverSteps : {E H : Type 0} → (Course → State → E → Type 0) → (H → Answers) → E → H → Vec Step Global → (Course → State → List model.Step → Type 0) → Type 0
+OverSteps Stands answers e h steps holds = (c : Course) (s : State) → Stands c s e → IsHost answers c s (steps_of steps.items) h → BindRepresented c (steps_of steps.items) → holds c s (steps_of steps.items)
 
 -- The second session is where a supply of all that is wanted, or a binding, leads from the first.
 abbrev pub IsAfterSupply : {E : Type 0} → (Course → State → E → Type 0) → (E → List Uid) → E → E → List (EntityUID × Option Entity) → Type 0
@@ -93,12 +93,12 @@ WentByBinding Stands d e n m before after = AtEachState Stands d (λ c s. IsRepr
 abbrev pub IsRefusedAt : Course → State → List model.Step → List model.Entry → Stop → Type 0
 IsRefusedAt c s steps es stop = IsRefused (session_of c) c.submission.policies s steps es stop
 
--- a step is refused with this stop, whatever steps come after it: at each state, or at each where the host answers for the course
+-- a step is refused with this stop, whatever steps come after it: at each state, or at each where the host's store is that of the course
 abbrev pub RefusesStep : {E : Type 0} → (Course → State → E → Type 0) → E → model.Step → Stop → Type 0
 RefusesStep Stands e step stop = (c : Course) (s : State) (rest : List model.Step) → Stands c s e → IsRefusedAt c s (step ∷ rest) [] stop
 
-abbrev pub RefusesStepOver : {E H : Type 0} → (Course → State → E → Type 0) → (H → Type 0) → (H → Answers) → E → H → model.Step → Stop → Type 0
-RefusesStepOver Stands IsHonest answers e h step stop = (c : Course) (s : State) (rest : List model.Step) → Stands c s e → IsHost IsHonest answers c s [] h → IsRefusedAt c s (step ∷ rest) [] stop
+abbrev pub RefusesStepOver : {E H : Type 0} → (Course → State → E → Type 0) → (H → Answers) → E → H → model.Step → Stop → Type 0
+RefusesStepOver Stands answers e h step stop = (c : Course) (s : State) (rest : List model.Step) → Stands c s e → IsHost answers c s [] h → IsRefusedAt c s (step ∷ rest) [] stop
 
 -- entries were added, with which rounds stopped, a run of these steps stopped, or came to an answer
 abbrev pub HaltsRounds : Vec Entry Global → Vec Entry Global → Stop → Course → State → Type 0
@@ -118,12 +118,12 @@ abbrev pub AsksBeyond : List (List Uid) → List (List Uid) → Vec Entry Global
 AsksBeyond asked now before after stop = (first : List (List Uid)) → AskedRounds first asked (entries_of before.items) → AskedBeyond (first ++ rounds_of (entries_of after.items)) now stop
 
 -- Where rounds stopped, or steps and rounds after them, the host was asked beyond the rounds for what was wanted then, if for anything.
-abbrev pub LosesOneRound : {E H : Type 0} → (Course → State → E → Type 0) → (H → Type 0) → (H → Answers) → (H → List (List Uid)) → E → H → H → Vec Entry Global → Vec Entry Global → Type 0
-LosesOneRound Stands IsHonest answers asked e g h before after =
-    (c : Course) (s : State) (first : List (List Uid)) → Stands c s e → IsHost IsHonest answers c s [] g → AskedRounds first (asked g) (entries_of before.items)
+abbrev pub LosesOneRound : {E H : Type 0} → (Course → State → E → Type 0) → (H → Answers) → (H → List (List Uid)) → E → H → H → Vec Entry Global → Vec Entry Global → Type 0
+LosesOneRound Stands answers asked e g h before after =
+    (c : Course) (s : State) (first : List (List Uid)) → Stands c s e → IsHost answers c s [] g → AskedRounds first (asked g) (entries_of before.items)
     → StopsLoading (session_of c) s (entries_of before.items) (entries_of after.items) first (asked h)
 
-abbrev pub LosesOneInSteps : {E H : Type 0} → (Course → State → E → Type 0) → (H → Type 0) → (H → Answers) → (H → List (List Uid)) → E → H → H → Vec Step Global → Vec Entry Global → Vec Entry Global → Type 0
-LosesOneInSteps Stands IsHonest answers asked e g h steps before after =
-    (c : Course) (s : State) (first : List (List Uid)) → Stands c s e → IsHost IsHonest answers c s (steps_of steps.items) g → BindRepresented c (steps_of steps.items)
+abbrev pub LosesOneInSteps : {E H : Type 0} → (Course → State → E → Type 0) → (H → Answers) → (H → List (List Uid)) → E → H → H → Vec Step Global → Vec Entry Global → Vec Entry Global → Type 0
+LosesOneInSteps Stands answers asked e g h steps before after =
+    (c : Course) (s : State) (first : List (List Uid)) → Stands c s e → IsHost answers c s (steps_of steps.items) g → BindRepresented c (steps_of steps.items)
     → AskedRounds first (asked g) (entries_of before.items) → StopsAt c s (steps_of steps.items) (entries_of before.items) (entries_of after.items) first (asked h)

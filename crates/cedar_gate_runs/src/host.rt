@@ -1,6 +1,6 @@
 //! Hosts, which are asked for entities.
 
-ghost use Rattle.std.specs.Prelude.{◌≡◌, ℕ, ◌<◌, ◌↔◌, List, map, IfOk};
+ghost use Rattle.std.specs.Prelude.{◌≡◌, ℕ, ◌<◌, List, map, IfOk};
 ghost use Rattle.cedar_expr_names.specs.Views.{uid_of};
 ghost use Rattle.cedar_expr_model.specs.Uid.{Uid};
 ghost use Rattle.cedar_gate_runs.specs.Hosts.{Answers, AreAnswersFrom, asked_after, failures_after};
@@ -27,7 +27,7 @@ pub trait Host {
     ghost store: { Self → Answers };
     /// The lists of uids that were asked for and answered, in their order.
     ghost asked: { Self → List (List Uid) };
-    /// The host answers from its store.
+    /// The host has answered from its store so far, and still does. Nothing is said of what a host answered that ends otherwise.
     ghost honest: { Self → Type 0 };
     /// How many faults of its own the host has had.
     ghost faults: { Self → ℕ };
@@ -36,7 +36,8 @@ pub trait Host {
     fn failures(&self) -> u64
         ensures { result ≡ faults self.now };
 
-    /// Asks for the entities of these uids. An honest host answers from its store, in the order of the uids.
+    /// Asks for the entities of these uids. A host that is honest after it was honest before, and answered from its store, which stays, in the
+    /// order of the uids.
     ///
     /// # Errors
     ///
@@ -47,9 +48,9 @@ pub trait Host {
         ids: &[EntityUID],
     ) -> Result<Vec<(EntityUID, Option<Entity>)>, HostFault>
         requires { faults self.old < u64.MAX }
-        ensures store { store self.new ≡ store self.old }
-        ensures honest { honest self.new ↔ honest self.old }
+        ensures honest { honest self.new → honest self.old }
+        ensures store { honest self.new → store self.new ≡ store self.old }
         ensures asked { asked self.new ≡ asked_after result (asked self.old) (map uid_of ids.now) }
         ensures faults { faults self.new ≡ failures_after result (faults self.old) }
-        ensures answers { honest self.old → IfOk result (λ answers. AreAnswersFrom (store self.old) (map uid_of ids.now) answers.items) };
+        ensures answers { honest self.new → IfOk result (λ answers. AreAnswersFrom (store self.old) (map uid_of ids.now) answers.items) };
 }

@@ -32,9 +32,9 @@ fn take_in<E: SessionCalls, H: Host>(
     ensures asked { OnOk result (H.asked host.new ≡ H.asked host.old ++ map uid_of wanted.now ∷ []) }
     ensures beyond { IfErr result (AskedBeyond (H.asked host.old) (H.asked host.new)) }
     ensures last { OnErr result (AskedAtMost (H.asked host.old) (H.asked host.new) (map uid_of wanted.now)) }
-    ensures at { OnOk result (OverHost E.stands H.honest H.store session.old host.old (IsAfterRound E.stands E.wants session.old session.new wanted.now)) }
-    ensures taken { OnOk result (OverHost E.stands H.honest H.store session.old host.old (TakesRound wanted.now)) }
-    ensures refused { IfErr result (λ stop. OverHost E.stands H.honest H.store session.old host.old (RefusesRound wanted.now stop)) }
+    ensures at { OnOk result (H.honest host.new → OverHost E.stands H.store session.old host.old (IsAfterRound E.stands E.wants session.old session.new wanted.now)) }
+    ensures taken { OnOk result (H.honest host.new → OverHost E.stands H.store session.old host.old (TakesRound wanted.now)) }
+    ensures refused { IfErr result (λ stop. H.honest host.new → OverHost E.stands H.store session.old host.old (RefusesRound wanted.now stop)) }
 {
     let supplied = host.fetch(alloc, wanted)?;
     match session.supply(alloc, supplied) {
@@ -65,8 +65,8 @@ pub(crate) fn load<E: SessionCalls, H: Host>(
     ensures asked { OnOk result (AsksRounds (H.asked host.old) (H.asked host.new) entries.old entries.new) }
     ensures beyond { IfErr result (AskedBeyond (H.asked host.old) (H.asked host.new)) }
     ensures last { OnErr result (AtEachState E.stands session.old (λ c s. AskedLast (session_of c) s (H.asked host.old) (H.asked host.new))) }
-    ensures did { IfOk result (λ b. OverHost E.stands H.honest H.store session.old host.old (WentByLoad E.stands b entries.old entries.new session.new)) }
-    ensures stopped { IfErr result (λ stop. OverHost E.stands H.honest H.store session.old host.old (λ c s. StopsLoad (session_of c) s stop)) }
+    ensures did { IfOk result (λ b. H.honest host.new → OverHost E.stands H.store session.old host.old (WentByLoad E.stands b entries.old entries.new session.new)) }
+    ensures stopped { IfErr result (λ stop. H.honest host.new → OverHost E.stands H.store session.old host.old (λ c s. StopsLoad (session_of c) s stop)) }
     ensures unchanged { OnErr result (entries_of entries.new.items ≡ entries_of entries.old.items) }
 {
     let wanted = copy_wanted(alloc, session)?;
@@ -92,9 +92,9 @@ pub(crate) fn load_all<E: SessionCalls, H: Host>(
     ensures counted { IfErr result (λ stop. H.faults host.new ≡ count_after stop (H.faults host.old)) }
     ensures asked { OnOk result (AsksRounds (H.asked host.old) (H.asked host.new) entries.old entries.new) }
     ensures beyond { IfErr result (λ stop. AsksBeyond (H.asked host.old) (H.asked host.new) entries.old entries.new stop) }
-    ensures last { OnErr result (LosesOneRound E.stands H.honest H.store H.asked session.old host.old host.new entries.old entries.new) }
-    ensures did { OnOk result (OverHost E.stands H.honest H.store session.old host.old (WentByRounds E.stands entries.old entries.new session.new)) }
-    ensures stopped { IfErr result (λ stop. OverHost E.stands H.honest H.store session.old host.old (HaltsRounds entries.old entries.new stop)) }
+    ensures last { OnErr result (H.honest host.new → LosesOneRound E.stands H.store H.asked session.old host.old host.new entries.old entries.new) }
+    ensures did { OnOk result (H.honest host.new → OverHost E.stands H.store session.old host.old (WentByRounds E.stands entries.old entries.new session.new)) }
+    ensures stopped { IfErr result (λ stop. H.honest host.new → OverHost E.stands H.store session.old host.old (HaltsRounds entries.old entries.new stop)) }
 {
     for _round in 0..u64::from(session.level()) + 1 {
         if !load(alloc, session, host, entries)? {

@@ -48,13 +48,13 @@ fn follow<E: SessionCalls, H: Host>(
     entries: &mut Vec<Entry>,
 ) -> Result<Response, Stop>
     requires { H.faults host.old < u64.MAX }
-    ensures answered { IfOk result (λ r. OverSteps E.stands H.honest H.store session.old host.old steps (ComesToAnswer entries.old entries.new (answer_of r))) }
-    ensures stopped { IfErr result (λ stop. OverSteps E.stands H.honest H.store session.old host.old steps (HaltsSteps entries.old entries.new stop)) }
+    ensures answered { IfOk result (λ r. H.honest host.new → OverSteps E.stands H.store session.old host.old steps (ComesToAnswer entries.old entries.new (answer_of r))) }
+    ensures stopped { IfErr result (λ stop. H.honest host.new → OverSteps E.stands H.store session.old host.old steps (HaltsSteps entries.old entries.new stop)) }
     ensures asked { OnOk result (AsksRounds (H.asked host.old) (H.asked host.new) entries.old entries.new) }
     ensures beyond { IfErr result (λ stop. AsksBeyond (H.asked host.old) (H.asked host.new) entries.old entries.new stop) }
     ensures faults { OnOk result (H.faults host.new ≡ H.faults host.old) }
     ensures counted { IfErr result (λ stop. H.faults host.new ≡ count_after stop (H.faults host.old)) }
-    ensures last { OnErr result (LosesOneInSteps E.stands H.honest H.store H.asked session.old host.old host.new steps entries.old entries.new) }
+    ensures last { OnErr result (H.honest host.new → LosesOneInSteps E.stands H.store H.asked session.old host.old host.new steps entries.old entries.new) }
 {
     take_steps(alloc, session, steps, host, entries)?;
     load_all(alloc, session, host, entries)?;
@@ -84,10 +84,11 @@ fn stopped(stop: Stop, entries: Vec<Entry>) -> RunFault
 
 /// Runs a session that was opened: does the steps in their order, loads until nothing is wanted, and answers.
 ///
-/// What it hands out is a run of the definitions. Of a proper course it keeps the promises of the headline, answered or stopped: no uid is asked
-/// for twice, only what is near is, few rounds follow the last binding, each decision that is owed is given, and the transcript is legal in
-/// every world that completes what was bound and answered. The host was asked for the rounds, and where the run stopped for one list more at
-/// most: what was wanted then, if the session refused what was answered to it.
+/// Where the host is honest as the run ends, what it hands out is a run of the definitions over the store that the host had. Of a proper course
+/// it keeps the promises of the headline, answered or stopped: no uid is asked for twice, only what is near is, few rounds follow the last
+/// binding, each decision that is owed is given, and the transcript is legal in every world that completes what was bound and answered. Whatever
+/// the host, it was asked for the rounds, and where the run stopped for one list more at most: what was wanted then, of an honest host, if the
+/// session refused what was answered to it.
 ///
 /// # Errors
 ///
@@ -100,10 +101,10 @@ pub fn run_session<E: SessionCalls + Drop, H: Host>(
     host: &mut H,
 ) -> Result<Transcript, RunFault>
     requires { H.faults host.old < u64.MAX }
-    ensures run { InEachRun E.stands session steps.items H.honest H.store host.old (λ c. IsRunOf c result) }
-    ensures promises { InEachRun E.stands session steps.items H.honest H.store host.old (λ c. IsAdmitted c → AnswerFairly c.functions → KeepsRun c result) }
+    ensures run { H.honest host.new → InEachRun E.stands session steps.items H.store host.old (λ c. IsRunOf c result) }
+    ensures promises { H.honest host.new → InEachRun E.stands session steps.items H.store host.old (λ c. IsAdmitted c → AnswerFairly c.functions → KeepsRun c result) }
     ensures host { HostSaw (H.asked host.old) (H.asked host.new) (H.faults host.old) (H.faults host.new) result }
-    ensures asked { InEachRun E.stands session steps.items H.honest H.store host.old (λ c. AsksWell c (H.asked host.old) (H.asked host.new) result) }
+    ensures asked { H.honest host.new → InEachRun E.stands session steps.items H.store host.old (λ c. AsksWell c (H.asked host.old) (H.asked host.new) result) }
     ensures answered { IfOk result (λ t. is_some t.answer ≡ true) }
     ensures no_answer { IfErr result (λ f. (run_fault_transcript f).answer ≡ None) }
 {

@@ -93,8 +93,8 @@ fn take_step<E: SessionCalls, H: Host>(
     ensures asked { OnOk result (AsksRounds (H.asked host.old) (H.asked host.new) entries.old entries.new) }
     ensures beyond { IfErr result (AskedBeyond (H.asked host.old) (H.asked host.new)) }
     ensures last { OnErr result (AtEachState E.stands session.old (λ c s. AskedLast (session_of c) s (H.asked host.old) (H.asked host.new))) }
-    ensures did { OnOk result (OverHost E.stands H.honest H.store session.old host.old (WentByStep E.stands (step_of step) entries.old entries.new session.new)) }
-    ensures stopped { IfErr result (λ stop. RefusesStepOver E.stands H.honest H.store session.old host.old (step_of step) stop) }
+    ensures did { OnOk result (H.honest host.new → OverHost E.stands H.store session.old host.old (WentByStep E.stands (step_of step) entries.old entries.new session.new)) }
+    ensures stopped { IfErr result (λ stop. H.honest host.new → RefusesStepOver E.stands H.store session.old host.old (step_of step) stop) }
     ensures unchanged { OnErr result (entries_of entries.new.items ≡ entries_of entries.old.items) }
 {
     match step {
@@ -121,9 +121,9 @@ pub(crate) fn take_steps<E: SessionCalls, H: Host>(
     ensures counted { IfErr result (λ stop. H.faults host.new ≡ count_after stop (H.faults host.old)) }
     ensures asked { OnOk result (AsksRounds (H.asked host.old) (H.asked host.new) entries.old entries.new) }
     ensures beyond { IfErr result (λ stop. AsksBeyond (H.asked host.old) (H.asked host.new) entries.old entries.new stop) }
-    ensures last { OnErr result (LosesOneInSteps E.stands H.honest H.store H.asked session.old host.old host.new steps entries.old entries.new) }
-    ensures did { OnOk result (OverSteps E.stands H.honest H.store session.old host.old steps (WentBySteps E.stands entries.old entries.new session.new)) }
-    ensures stopped { IfErr result (λ stop. OverSteps E.stands H.honest H.store session.old host.old steps (HaltsSteps entries.old entries.new stop)) }
+    ensures last { OnErr result (H.honest host.new → LosesOneInSteps E.stands H.store H.asked session.old host.old host.new steps entries.old entries.new) }
+    ensures did { OnOk result (H.honest host.new → OverSteps E.stands H.store session.old host.old steps (WentBySteps E.stands entries.old entries.new session.new)) }
+    ensures stopped { IfErr result (λ stop. H.honest host.new → OverSteps E.stands H.store session.old host.old steps (HaltsSteps entries.old entries.new stop)) }
 {
     for step in steps {
         take_step(alloc, session, step, host, entries)?;

@@ -20,24 +20,24 @@ returns-in_err-take_in-clause-stopped g c =
     let stop = c.in_err-take_in.field-0.0 in
     let some = not_none items _ c.is_empty.result (sym c.as_slice.ensures.len ∙ ap length c.as_slice.ensures.value) c.is_empty.ensures c.if-is_empty.false in
     handed _ stop c.from_residual-in_err-take_in.result c.from_residual-in_err-take_in.ensures.1
-    (λ d s h i.
+    (λ honest d s h i.
     round_stops (session_of d) s us stop (λ k. some (uids_none items k)) (c.in_ok-wanted.ensures.exact d s h)
-    (subst (λ xs. StopsSupply (session_of d) s (supplied_by (session_of d) (map uid_of xs)) stop) c.as_slice.ensures.value (c.in_err-take_in.ensures.refused d s h i)))
+    (subst (λ xs. StopsSupply (session_of d) s (supplied_by (session_of d) (map uid_of xs)) stop) c.as_slice.ensures.value (c.in_err-take_in.ensures.refused honest d s h i)))
 
 pub returns-clause-did : goal.returns-clause-did
 returns-clause-did g c =
     let items = c.in_ok-wanted.wanted.items in
     let us = map uid_of items in
     let some = not_none items _ c.is_empty.result (sym c.as_slice.ensures.len ∙ ap length c.as_slice.ensures.value) c.is_empty.ensures c.if-is_empty.false in
-    λ d s h i.
+    λ honest d s h i.
     let same : map uid_of c.as_slice.result.now ≡ us = ap (map uid_of) c.as_slice.ensures.value in
     record {
       entries = round us ∷ [];
       state = with_asked s us;
       leads = round_done (session_of d) s us (λ k. some (uids_none items k)) (c.in_ok-wanted.ensures.exact d s h)
-          (subst (λ vs. (f : SupplyRefusal) → SupplyFault (session_of d) s (supplied_by (session_of d) vs) f → ⊥) same (c.in_ok-take_in.ensures.taken d s h i));
+          (subst (λ vs. (f : SupplyRefusal) → SupplyFault (session_of d) s (supplied_by (session_of d) vs) f → ⊥) same (c.in_ok-take_in.ensures.taken honest d s h i));
       added = pushed_in_room _ _ _ _ (round us) c.in_ok-reserve.ensures.items c.in_ok-push.ensures.items refl;
-      at = subst (λ vs. g.E.SessionCalls.stands d (with_asked s vs) c.take_in.new.session) same (c.in_ok-take_in.ensures.at d s h i (subst (IsWantedList (session_of d) s) (sym same) (c.in_ok-wanted.ensures.exact d s h)) (same ∙ c.in_ok-wanted.ensures.wanted));
+      at = subst (λ vs. g.E.SessionCalls.stands d (with_asked s vs) c.take_in.new.session) same (c.in_ok-take_in.ensures.at honest d s h i (subst (IsWantedList (session_of d) s) (sym same) (c.in_ok-wanted.ensures.exact d s h)) (same ∙ c.in_ok-wanted.ensures.wanted));
     }
 
 pub returns-clause-asked : goal.returns-clause-asked

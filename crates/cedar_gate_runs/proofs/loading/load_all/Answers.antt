@@ -1,7 +1,7 @@
 use Rattle.std.proofs.Common.{rules, ◌≡◌, ◌<◌, [], true, false, ap, refl, ◌∙◌, subst, arith}
 use Rattle.cedar_gate_model.specs.RunsAnswer.{session_of}
 use Rattle.cedar_gate_runs.proofs.Asked.{beyond_on}
-use Rattle.cedar_gate_runs.proofs.Hosted.{host_loaded}
+use Rattle.cedar_gate_runs.proofs.Hosted.{host_loaded, host_with, stays_on}
 use Rattle.cedar_gate_runs.proofs.Looped.{loading_none, loading_more, loading_ends, loading_halts, loading_few}
 use Rattle.cedar_gate_runs.proofs.Pushed.{handed}
 use Rattle.cedar_gate_runs.specs.Running.{Went, DidLoad}
@@ -14,8 +14,8 @@ pub loop-round-init : goal.loop-round-init
 loop-round-init g c = record {
   faults = refl;
   asked = λ first h. h;
-  host = λ d s steps i. i;
-  loading = λ d s h i. loading_none (g.E.SessionCalls.stands d) (session_of d) s _ _ h;
+  host = λ honest. (honest, refl);
+  loading = λ honest d s h i. loading_none (g.E.SessionCalls.stands d) (session_of d) s _ _ h;
 }
 
 pub loop-round-preserved : goal.loop-round-preserved
@@ -25,26 +25,28 @@ loop-round-preserved g c =
     record {
       faults = c.in_ok-load.ensures.faults ∙ i.faults;
       asked = λ first h. c.in_ok-load.ensures.asked first (i.asked first h);
-      host = λ d s steps k. c.in_ok-load.ensures.host d s steps (i.host d s steps k);
-      loading = λ d s h k.
-          let l = i.loading d s h k in
-          let w = c.in_ok-load.ensures.did d l.went.state l.went.at (host_loaded g.H.Host.honest g.H.Host.store d s l.went.state c.loop-round.host l.went.entries l.went.leads (i.host d s [] k)) in
+      host = stays_on g.H.Host.honest g.H.Host.store _ _ _ i.host c.in_ok-load.ensures.host;
+      loading = λ honest d s h k.
+          let before = (c.in_ok-load.ensures.host honest).0 in
+          let l = i.loading before d s h k in
+          let w = c.in_ok-load.ensures.did honest d l.went.state l.went.at (host_loaded g.H.Host.store d s l.went.state c.loop-round.host l.went.entries l.went.leads (host_with g.H.Host.store d s [] _ _ (i.host before).1 k)) in
           loading_more (g.E.SessionCalls.stands d) (session_of d) s c.loop-round._round _ _ _ _ _ l
           (subst (λ b. Went (g.E.SessionCalls.stands d) (DidLoad (session_of d) l.went.state b) (entries_of c.loop-round.entries.items) (entries_of c.load.new.entries.items) c.load.new.session) more w);
     }
 
 pub returns-in_err-load-clause-host : goal.returns-in_err-load-clause-host
-returns-in_err-load-clause-host g c = λ d s steps k. c.in_err-load.ensures.host d s steps (c.loop-round.invariant.host d s steps k)
+returns-in_err-load-clause-host g c = stays_on g.H.Host.honest g.H.Host.store _ _ _ c.loop-round.invariant.host c.in_err-load.ensures.host
 
 pub returns-in_err-load-clause-stopped : goal.returns-in_err-load-clause-stopped
 returns-in_err-load-clause-stopped g c = handed _ c.in_err-load.field-0.0 c.from_residual.result c.from_residual.ensures.1
-    (λ d s h k.
+    (λ honest d s h k.
     let i = c.loop-round.invariant in
-    let l = i.loading d s h k in
-    loading_halts (g.E.SessionCalls.stands d) (session_of d) s c.loop-round._round _ _ _ _ c.in_err-load.field-0.0 l c.in_err-load.ensures.unchanged (c.in_err-load.ensures.stopped d l.went.state l.went.at (host_loaded g.H.Host.honest g.H.Host.store d s l.went.state c.loop-round.host l.went.entries l.went.leads (i.host d s [] k))))
+    let before = (c.in_err-load.ensures.host honest).0 in
+    let l = i.loading before d s h k in
+    loading_halts (g.E.SessionCalls.stands d) (session_of d) s c.loop-round._round _ _ _ _ c.in_err-load.field-0.0 l c.in_err-load.ensures.unchanged (c.in_err-load.ensures.stopped honest d l.went.state l.went.at (host_loaded g.H.Host.store d s l.went.state c.loop-round.host l.went.entries l.went.leads (host_with g.H.Host.store d s [] _ _ (i.host before).1 k))))
 
 pub returns-then-not-branch-clause-host : goal.returns-then-not-branch-clause-host
-returns-then-not-branch-clause-host g c = λ d s steps k. c.in_ok-load.ensures.host d s steps (c.loop-round.invariant.host d s steps k)
+returns-then-not-branch-clause-host g c = stays_on g.H.Host.honest g.H.Host.store _ _ _ c.loop-round.invariant.host c.in_ok-load.ensures.host
 
 pub returns-then-not-branch-clause-faults : goal.returns-then-not-branch-clause-faults
 returns-then-not-branch-clause-faults g c = c.in_ok-load.ensures.faults ∙ c.loop-round.invariant.faults
@@ -53,9 +55,10 @@ pub returns-then-not-branch-clause-did : goal.returns-then-not-branch-clause-did
 returns-then-not-branch-clause-did g c =
     let i = c.loop-round.invariant in
     let none : c.in_ok-load.field-0 ≡ false = search rules in
-    λ d s h k.
-    let l = i.loading d s h k in
-    let w = c.in_ok-load.ensures.did d l.went.state l.went.at (host_loaded g.H.Host.honest g.H.Host.store d s l.went.state c.loop-round.host l.went.entries l.went.leads (i.host d s [] k)) in
+    λ honest d s h k.
+    let before = (c.in_ok-load.ensures.host honest).0 in
+    let l = i.loading before d s h k in
+    let w = c.in_ok-load.ensures.did honest d l.went.state l.went.at (host_loaded g.H.Host.store d s l.went.state c.loop-round.host l.went.entries l.went.leads (host_with g.H.Host.store d s [] _ _ (i.host before).1 k)) in
     loading_ends (g.E.SessionCalls.stands d) (session_of d) s c.loop-round._round _ _ _ _ _ l
     (subst (λ b. Went (g.E.SessionCalls.stands d) (DidLoad (session_of d) l.went.state b) (entries_of c.loop-round.entries.items) (entries_of c.load.new.entries.items) c.load.new.session) none w)
 
@@ -66,11 +69,11 @@ pub returns-clause-faults : goal.returns-clause-faults
 returns-clause-faults g c = c.loop-round.invariant.faults
 
 pub returns-clause-did : goal.returns-clause-did
-returns-clause-did g c = λ d s h k.
+returns-clause-did g c = λ honest d s h k.
     let i = c.loop-round.invariant in
     let at : d.submission.level ≡ c.level.result = c.level.ensures d s h in
     let high : d.submission.level < c.loop-round._round = omega (arith, at, c.loop-round-test.false, c.from-round-end.ensures) in
-    loading_few (g.E.SessionCalls.stands d) (session_of d) s c.loop-round._round _ _ _ (i.loading d s h k) high
+    loading_few (g.E.SessionCalls.stands d) (session_of d) s c.loop-round._round _ _ _ (i.loading honest d s h k) high
 
 pub returns-in_err-load-clause-beyond : goal.returns-in_err-load-clause-beyond
 returns-in_err-load-clause-beyond g c = handed _ c.in_err-load.field-0.0 c.from_residual.result c.from_residual.ensures.1
@@ -89,7 +92,7 @@ returns-in_err-load-clause-counted g c =
 
 pub returns-in_err-load-clause-last : goal.returns-in_err-load-clause-last
 returns-in_err-load-clause-last g c = on_err _ c.from_residual.result
-    (λ d s first h k a.
+    (λ honest d s first h k a.
     let i = c.loop-round.invariant in
-    let l = i.loading d s h k in
+    let l = i.loading (c.in_err-load.ensures.host honest).0 d s h k in
     loading_last (g.E.SessionCalls.stands d) (session_of d) s c.loop-round._round _ _ _ _ first _ _ l c.in_err-load.ensures.unchanged (i.asked first a) (c.in_err-load.ensures.last d l.went.state l.went.at))

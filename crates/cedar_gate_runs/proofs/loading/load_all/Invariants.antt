@@ -14,6 +14,6 @@ invariant-loop-round g l = record {
   faults : g.H.Host.faults l.host ≡ g.H.Host.faults l.fn.host;
   asked : (first : List (List Uid)) → AskedRounds first (g.H.Host.asked l.fn.host) (entries_of l.fn.entries.items) → AskedRounds first (g.H.Host.asked l.host) (entries_of l.entries.items);
   host : HostStays g.H.Host.honest g.H.Host.store l.fn.host l.host;
-  loading : (c : Course) (s : State) → g.E.SessionCalls.stands c s l.fn.session → IsHost g.H.Host.honest g.H.Host.store c s [] l.fn.host
+  loading : g.H.Host.honest l.host → (c : Course) (s : State) → g.E.SessionCalls.stands c s l.fn.session → IsHost g.H.Host.store c s [] l.fn.host
       → Loading (g.E.SessionCalls.stands c) (session_of c) s l._round (entries_of l.fn.entries.items) (entries_of l.entries.items) l.session;
 }

@@ -5,7 +5,7 @@ use Rattle.cedar_gate_model.specs.RunsAnswer.{session_of}
 use Rattle.cedar_gate_model.specs.Session.{SupplyFault}
 use Rattle.cedar_gate_runs.proofs.Asked.{host_beyond, supply_beyond}
 use Rattle.cedar_gate_runs.proofs.Faulted.{host_stops, supply_stops}
-use Rattle.cedar_gate_runs.proofs.Hosted.{host_stays, supplied_is, are_answers}
+use Rattle.cedar_gate_runs.proofs.Hosted.{supplied_is, are_answers}
 use Rattle.cedar_gate_runs.proofs.Pushed.{handed}
 use Rattle.std.proofs.lemmas.List.{append-nil}
 use Rattle.cedar_gate_runs.specs.Asking.{AskedBeyond}
@@ -17,33 +17,33 @@ use Rattle.cedar_gate_runs.specs.Counting.{KeepsCount}
 use Rattle.cedar_gate_runs.proofs.loading.take_in.Goals as goal
 
 pub returns-in_err-supplied-clause-host : goal.returns-in_err-supplied-clause-host
-returns-in_err-supplied-clause-host g c = host_stays g.H.Host.honest g.H.Host.store _ _ c.in_err-supplied.ensures.store c.in_err-supplied.ensures.honest
+returns-in_err-supplied-clause-host g c = λ honest. (c.in_err-supplied.ensures.honest honest, c.in_err-supplied.ensures.store honest)
 
 pub returns-in_err-supplied-clause-refused : goal.returns-in_err-supplied-clause-refused
-returns-in_err-supplied-clause-refused g c = handed _ (host_stop c.in_err-supplied.field-0.0) c.from_residual.result c.from_residual.ensures.1 (λ d s h i. host_stops (session_of d) s _ c.in_err-supplied.field-0.0)
+returns-in_err-supplied-clause-refused g c = handed _ (host_stop c.in_err-supplied.field-0.0) c.from_residual.result c.from_residual.ensures.1 (λ honest d s h i. host_stops (session_of d) s _ c.in_err-supplied.field-0.0)
 
 pub returns-in-Ok-clause-host : goal.returns-in-Ok-clause-host
-returns-in-Ok-clause-host g c = host_stays g.H.Host.honest g.H.Host.store _ _ c.in_ok-supplied.ensures.store c.in_ok-supplied.ensures.honest
+returns-in-Ok-clause-host g c = λ honest. (c.in_ok-supplied.ensures.honest honest, c.in_ok-supplied.ensures.store honest)
 
 pub returns-in-Ok-clause-at : goal.returns-in-Ok-clause-at
-returns-in-Ok-clause-at g c = λ d s h i w e.
+returns-in-Ok-clause-at g c = λ honest d s h i w e.
     let us = map uid_of c.args.wanted.now in
-    let a = are_answers g.H.Host.honest g.H.Host.store d s c.args.host.now i c.in_ok-supplied.supplied.items us (c.in_ok-supplied.ensures.answers i.honest) w in
+    let a = are_answers g.H.Host.store d s c.args.host.now i c.in_ok-supplied.supplied.items us (c.in_ok-supplied.ensures.answers honest) w in
     subst (λ vs. g.E.SessionCalls.stands d (with_asked s vs) c.supply.new.self) (sym e) (c.in-Ok.ensures.at d s h a)
 
 pub returns-in-Ok-clause-taken : goal.returns-in-Ok-clause-taken
-returns-in-Ok-clause-taken g c = λ d s h i f k.
+returns-in-Ok-clause-taken g c = λ honest d s h i f k.
     let us = map uid_of c.args.wanted.now in
-    let e = supplied_is g.H.Host.honest g.H.Host.store d s c.args.host.now i c.in_ok-supplied.supplied.items us (c.in_ok-supplied.ensures.answers i.honest) in
+    let e = supplied_is g.H.Host.store d s c.args.host.now i c.in_ok-supplied.supplied.items us (c.in_ok-supplied.ensures.answers honest) in
     c.in-Ok.ensures.taken d s h f (subst (λ ps. SupplyFault (session_of d) s ps f) (sym e) k)
 
 pub returns-in-Err-clause-host : goal.returns-in-Err-clause-host
-returns-in-Err-clause-host g c = host_stays g.H.Host.honest g.H.Host.store _ _ c.in_ok-supplied.ensures.store c.in_ok-supplied.ensures.honest
+returns-in-Err-clause-host g c = λ honest. (c.in_ok-supplied.ensures.honest honest, c.in_ok-supplied.ensures.store honest)
 
 pub returns-in-Err-clause-refused : goal.returns-in-Err-clause-refused
-returns-in-Err-clause-refused g c = λ d s h i.
+returns-in-Err-clause-refused g c = λ honest d s h i.
     let us = map uid_of c.args.wanted.now in
-    let e = supplied_is g.H.Host.honest g.H.Host.store d s c.args.host.now i c.in_ok-supplied.supplied.items us (c.in_ok-supplied.ensures.answers i.honest) in
+    let e = supplied_is g.H.Host.store d s c.args.host.now i c.in_ok-supplied.supplied.items us (c.in_ok-supplied.ensures.answers honest) in
     subst (StopsSupply (session_of d) s (supplied_by (session_of d) us)) (sym c.supplying.ensures)
     (supply_stops (session_of d) s (supplied_by (session_of d) us) c.in-Err.refusal (subst (λ ps. IsSupplyRefusal (session_of d) s ps c.in-Err.refusal) e (c.in-Err.ensures.refused d s h)))
 

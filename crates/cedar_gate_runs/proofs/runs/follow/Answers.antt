@@ -2,7 +2,7 @@ use Rattle.std.proofs.Common.{[], refl, ap, ◌∙◌}
 use Rattle.cedar_gate_runs.proofs.Asked.{alone_beyond, beyond_on}
 use Rattle.cedar_gate_runs.proofs.Ended.{carried_err, comes_to, halts_last}
 use Rattle.std.proofs.lemmas.List.{append-nil}
-use Rattle.cedar_gate_runs.proofs.Hosted.{host_after}
+use Rattle.cedar_gate_runs.proofs.Hosted.{host_after, host_with}
 use Rattle.cedar_gate_runs.proofs.Looped.{halts_after}
 use Rattle.cedar_gate_runs.proofs.Pushed.{handed, carried, carried_to}
 use Rattle.cedar_gate_runs.specs.Steps.{steps_of}
@@ -17,22 +17,25 @@ returns-in_err-take_steps-clause-stopped g c = handed _ c.in_err-take_steps.fiel
 
 pub returns-in_err-load_all-clause-stopped : goal.returns-in_err-load_all-clause-stopped
 returns-in_err-load_all-clause-stopped g c = handed _ c.in_err-load_all.field-0.0 c.from_residual-in_err-load_all.result c.from_residual-in_err-load_all.ensures.1
-    (λ d s h i b.
-    let w = c.in_ok-take_steps.ensures.did d s h i b in
-    halts_after (g.E.SessionCalls.stands d) d s (steps_of c.args.steps.items) _ _ _ _ c.in_err-load_all.field-0.0 w (c.in_err-load_all.ensures.stopped d w.state w.at (host_after g.H.Host.honest g.H.Host.store d s w.state c.take_steps.new.host (steps_of c.args.steps.items) (steps_of c.args.steps.items) [] w.entries (append-nil _) w.leads (c.in_ok-take_steps.ensures.host d s (steps_of c.args.steps.items) i))))
+    (λ honest d s h i b.
+    let before = (c.in_err-load_all.ensures.host honest).0 in
+    let w = c.in_ok-take_steps.ensures.did before d s h i b in
+    halts_after (g.E.SessionCalls.stands d) d s (steps_of c.args.steps.items) _ _ _ _ c.in_err-load_all.field-0.0 w (c.in_err-load_all.ensures.stopped honest d w.state w.at (host_after g.H.Host.store d s w.state c.take_steps.new.host (steps_of c.args.steps.items) (steps_of c.args.steps.items) [] w.entries (append-nil _) w.leads (host_with g.H.Host.store d s (steps_of c.args.steps.items) _ _ (c.in_ok-take_steps.ensures.host before).1 i))))
 
 pub returns-clause-answered : goal.returns-clause-answered
 returns-clause-answered g c = carried _ _ c.finish.result
-    (λ r p d s h i b.
-    let w = c.in_ok-take_steps.ensures.did d s h i b in
-    let v = c.in_ok-load_all.ensures.did d w.state w.at (host_after g.H.Host.honest g.H.Host.store d s w.state c.take_steps.new.host (steps_of c.args.steps.items) (steps_of c.args.steps.items) [] w.entries (append-nil _) w.leads (c.in_ok-take_steps.ensures.host d s (steps_of c.args.steps.items) i)) in
+    (λ r p honest d s h i b.
+    let before = (c.in_ok-load_all.ensures.host honest).0 in
+    let w = c.in_ok-take_steps.ensures.did before d s h i b in
+    let v = c.in_ok-load_all.ensures.did honest d w.state w.at (host_after g.H.Host.store d s w.state c.take_steps.new.host (steps_of c.args.steps.items) (steps_of c.args.steps.items) [] w.entries (append-nil _) w.leads (host_with g.H.Host.store d s (steps_of c.args.steps.items) _ _ (c.in_ok-take_steps.ensures.host before).1 i)) in
     comes_to (g.E.SessionCalls.stands d) d s (steps_of c.args.steps.items) _ _ _ _ _ w v (answer_of r) (p d v.state v.at v.leads.1)) c.finish.ensures.answered
 
 pub returns-clause-stopped : goal.returns-clause-stopped
 returns-clause-stopped g c = carried_err _ _ c.finish.result
-    (λ stop p d s h i b.
-    let w = c.in_ok-take_steps.ensures.did d s h i b in
-    let v = c.in_ok-load_all.ensures.did d w.state w.at (host_after g.H.Host.honest g.H.Host.store d s w.state c.take_steps.new.host (steps_of c.args.steps.items) (steps_of c.args.steps.items) [] w.entries (append-nil _) w.leads (c.in_ok-take_steps.ensures.host d s (steps_of c.args.steps.items) i)) in
+    (λ stop p honest d s h i b.
+    let before = (c.in_ok-load_all.ensures.host honest).0 in
+    let w = c.in_ok-take_steps.ensures.did before d s h i b in
+    let v = c.in_ok-load_all.ensures.did honest d w.state w.at (host_after g.H.Host.store d s w.state c.take_steps.new.host (steps_of c.args.steps.items) (steps_of c.args.steps.items) [] w.entries (append-nil _) w.leads (host_with g.H.Host.store d s (steps_of c.args.steps.items) _ _ (c.in_ok-take_steps.ensures.host before).1 i)) in
     halts_last (g.E.SessionCalls.stands d) d s (steps_of c.args.steps.items) _ _ _ _ _ w v stop (p d v.state v.at v.leads.1)) c.finish.ensures.stopped
 
 pub returns-in_err-take_steps-clause-beyond : goal.returns-in_err-take_steps-clause-beyond
@@ -71,13 +74,15 @@ returns-in_err-take_steps-clause-last g c = on_err _ c.from_residual.result c.in
 
 pub returns-in_err-load_all-clause-last : goal.returns-in_err-load_all-clause-last
 returns-in_err-load_all-clause-last g c = on_err _ c.from_residual-in_err-load_all.result
-    (λ d s first h i b a.
-    let w = c.in_ok-take_steps.ensures.did d s h i b in
-    rounds_last (g.E.SessionCalls.stands d) d s (steps_of c.args.steps.items) _ _ _ _ first _ w (c.in_err-load_all.ensures.last d w.state first w.at (host_after g.H.Host.honest g.H.Host.store d s w.state c.take_steps.new.host (steps_of c.args.steps.items) (steps_of c.args.steps.items) [] w.entries (append-nil _) w.leads (c.in_ok-take_steps.ensures.host d s (steps_of c.args.steps.items) i)) (c.in_ok-take_steps.ensures.asked first a)))
+    (λ honest d s first h i b a.
+    let before = (c.in_err-load_all.ensures.host honest).0 in
+    let w = c.in_ok-take_steps.ensures.did before d s h i b in
+    rounds_last (g.E.SessionCalls.stands d) d s (steps_of c.args.steps.items) _ _ _ _ first _ w (c.in_err-load_all.ensures.last honest d w.state first w.at (host_after g.H.Host.store d s w.state c.take_steps.new.host (steps_of c.args.steps.items) (steps_of c.args.steps.items) [] w.entries (append-nil _) w.leads (host_with g.H.Host.store d s (steps_of c.args.steps.items) _ _ (c.in_ok-take_steps.ensures.host before).1 i)) (c.in_ok-take_steps.ensures.asked first a)))
 
 pub returns-clause-last : goal.returns-clause-last
 returns-clause-last g c = on_err _ c.finish.result
-    (λ d s first h i b a.
-    let w = c.in_ok-take_steps.ensures.did d s h i b in
-    let v = c.in_ok-load_all.ensures.did d w.state w.at (host_after g.H.Host.honest g.H.Host.store d s w.state c.take_steps.new.host (steps_of c.args.steps.items) (steps_of c.args.steps.items) [] w.entries (append-nil _) w.leads (c.in_ok-take_steps.ensures.host d s (steps_of c.args.steps.items) i)) in
+    (λ honest d s first h i b a.
+    let before = (c.in_ok-load_all.ensures.host honest).0 in
+    let w = c.in_ok-take_steps.ensures.did before d s h i b in
+    let v = c.in_ok-load_all.ensures.did honest d w.state w.at (host_after g.H.Host.store d s w.state c.take_steps.new.host (steps_of c.args.steps.items) (steps_of c.args.steps.items) [] w.entries (append-nil _) w.leads (host_with g.H.Host.store d s (steps_of c.args.steps.items) _ _ (c.in_ok-take_steps.ensures.host before).1 i)) in
     answer_last (g.E.SessionCalls.stands d) d s (steps_of c.args.steps.items) _ _ _ _ _ first _ w v (c.in_ok-load_all.ensures.asked first (c.in_ok-take_steps.ensures.asked first a)))

@@ -23,24 +23,24 @@ pub returns-in_err-load-in-Load-clause-stopped : goal.returns-in_err-load-in-Loa
 returns-in_err-load-in-Load-clause-stopped g c =
     let stop = c.in_err-load-in-Load.field-0.0 in
     handed _ stop c.from_residual.result c.from_residual.ensures.1
-    (λ d s rest h i.
+    (λ honest d s rest h i.
     subst (λ z. IsRefused (session_of d) d.submission.policies s (step_of z ∷ rest) [] stop) (sym c.in-Load.is)
-    (load_stops (session_of d) d.submission.policies s stop rest (c.in_err-load-in-Load.ensures.stopped d s h i)))
+    (load_stops (session_of d) d.submission.policies s stop rest (c.in_err-load-in-Load.ensures.stopped honest d s h i)))
 
 pub returns-in-Bind-clause-did : goal.returns-in-Bind-clause-did
 returns-in-Bind-clause-did g c = carried_ok _ _ c.bind_name.result
-    (λ p d s h i b.
+    (λ p honest d s h i b.
     let well = bound_represented d (rc_str_bytes c.in-Bind.name) (made extension_of c.in-Bind.value) (subst (λ z. BindRepresented d (step_of z ∷ [])) c.in-Bind.is b) in
     subst (λ z. Went (g.E.SessionCalls.stands d) (DidSteps d s (step_of z ∷ [])) (entries_of c.args.entries.now.items) (entries_of c.bind_name.new.entries.items) c.bind_name.new.session) (sym c.in-Bind.is) (p d s h well))
     c.bind_name.ensures.did
 
 pub returns-in-Bind-clause-stopped : goal.returns-in-Bind-clause-stopped
 returns-in-Bind-clause-stopped g c = carried_err _ _ c.bind_name.result
-    (λ stop p d s rest h i. subst (λ z. IsRefused (session_of d) d.submission.policies s (step_of z ∷ rest) [] stop) (sym c.in-Bind.is) (p d s rest h)) c.bind_name.ensures.stopped
+    (λ stop p honest d s rest h i. subst (λ z. IsRefused (session_of d) d.submission.policies s (step_of z ∷ rest) [] stop) (sym c.in-Bind.is) (p d s rest h)) c.bind_name.ensures.stopped
 
 pub returns-in-Decide-clause-did : goal.returns-in-Decide-clause-did
 returns-in-Decide-clause-did g c = carried_ok _ _ c.decide.result
-    (λ p d s h i b. subst (λ z. Went (g.E.SessionCalls.stands d) (DidSteps d s (step_of z ∷ [])) (entries_of c.args.entries.now.items) (entries_of c.decide.new.entries.items) c.args.session.now) (sym c.in-Decide.is) (p d s h))
+    (λ p honest d s h i b. subst (λ z. Went (g.E.SessionCalls.stands d) (DidSteps d s (step_of z ∷ [])) (entries_of c.args.entries.now.items) (entries_of c.decide.new.entries.items) c.args.session.now) (sym c.in-Decide.is) (p d s h))
     c.decide.ensures.did
 
 pub returns-in_err-load-in-Load-clause-beyond : goal.returns-in_err-load-in-Load-clause-beyond

@@ -17,6 +17,6 @@ invariant-loop-step g l = record {
   faults : g.H.Host.faults l.host ≡ g.H.Host.faults l.fn.host;
   asked : (first : List (List Uid)) → AskedRounds first (g.H.Host.asked l.fn.host) (entries_of l.fn.entries.items) → AskedRounds first (g.H.Host.asked l.host) (entries_of l.entries.items);
   host : HostStays g.H.Host.honest g.H.Host.store l.fn.host l.host;
-  went : (c : Course) (s : State) → g.E.SessionCalls.stands c s l.fn.session → IsHost g.H.Host.honest g.H.Host.store c s (steps_of l.fn.steps.items) l.fn.host → BindRepresented c (steps_of l.fn.steps.items)
+  went : g.H.Host.honest l.host → (c : Course) (s : State) → g.E.SessionCalls.stands c s l.fn.session → IsHost g.H.Host.store c s (steps_of l.fn.steps.items) l.fn.host → BindRepresented c (steps_of l.fn.steps.items)
       → Went (g.E.SessionCalls.stands c) (DidSteps c s (steps_of l.yielded)) (entries_of l.fn.entries.items) (entries_of l.entries.items) l.session;
 }
