@@ -1,5 +1,5 @@
 -- What several expressions leave, one after the other.
-use Rattle.std.proofs.Common.{◌≡◌, ℕ, suc, ◌<◌, ◌≤◌, ◌+◌, Bool, true, false, List, [], ◌∷◌, ◌++◌, map, length, drop, get_or, drop-cons, drop_of_length-le, Option, Some, None, option_map, refl, sym, ap, ◌∙◌, subst, arith}
+use Rattle.std.proofs.Common.{◌≡◌, ℕ, suc, ◌<◌, ◌≤◌, ◌+◌, true, false, List, [], ◌∷◌, ◌++◌, map, length, drop, get_or, drop-cons, drop_of_length-le, Option, Some, None, refl, sym, ap, ◌∙◌, subst, arith}
 use Rattle.std.proofs.lemmas.List.{map-append}
 use Rattle.std.specs.Option.{option_map_or}
 use Rattle.std.specs.Ordering.{match_ordering}
@@ -13,7 +13,7 @@ use Rattle.cedar_expr_model.specs.Made.{Made, Mades, bare}
 use Rattle.cedar_expr_model.specs.Order.{value_cmp}
 use Rattle.cedar_expr_model.specs.Parts.{listed, listed_fields}
 use Rattle.cedar_expr_model.specs.Tree.{Tree}
-use Rattle.cedar_expr_model.specs.ValueParts.{Part, known, left, all_known, part_tree, Split, values_alone, with_residuals, split}
+use Rattle.cedar_expr_model.specs.ValueParts.{Part, known, left, all_known, part_tree, values_alone, with_residuals, split}
 use Rattle.cedar_expr_values.specs.Extensions.{extension_of}
 use Rattle.cedar_expr_values.specs.Rising.{placed, in_rising}
 use Rattle.cedar_expr_values.specs.Values.{made_list, made_cmp, members_as_made}
@@ -22,9 +22,8 @@ use Rattle.cedar_expr_trees.specs.Trees.{tree_of, named, field_trees}
 use Rattle.cedar_expr_trees.specs.declared.expr.Expr.{Expr}
 use Rattle.cedar_expr_partial.specs.Parts.{part_of}
 use Rattle.cedar_expr_partial.specs.declared.partial_value.PartialValue.{PartialValue}
-use Rattle.cedar_expr_partial.specs.declared.partial_value.PartialValue.TheVariants as partial
-use Rattle.cedar_evaluator_model.specs.Scope.{Left, residual, stopped, Stop}
-use Rattle.cedar_evaluator_model.specs.Steps.{Pieces, pieces, halted, with_piece, from_pieces, tag_left, made_inserted, made_members}
+use Rattle.cedar_evaluator_model.specs.Scope.{Left, stopped, Stop}
+use Rattle.cedar_evaluator_model.specs.Steps.{Pieces, pieces, halted, with_piece, tag_left, made_inserted, made_members}
 use Rattle.cedar_evaluator_model.specs.Evaluation.{pieces_of}
 use Rattle.cedar_evaluator_errors.specs.Outcomes.{left_seen, is_memory, stop_or}
 use Rattle.cedar_evaluator_core.specs.Gathered.{parts_of, ArePieces, onto, IsLonger}

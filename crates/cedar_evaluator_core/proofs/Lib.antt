@@ -1,5 +1,6 @@
 pub mod Levels
 pub mod Gathered
+pub mod Lent
 pub mod Named
 pub mod Nodes
 pub mod OneLevel

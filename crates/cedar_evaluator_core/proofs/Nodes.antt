@@ -1,5 +1,5 @@
 -- One level of an expression, by what is left of its parts.
-use Rattle.std.proofs.Common.{◌≡◌, ◌<◌, ◌-◌, ℕ, Bool, true, false, List, refl, sym, ap, ◌∙◌, subst}
+use Rattle.std.proofs.Common.{◌≡◌, ℕ, Bool, true, false, List, refl, sym, ap, ◌∙◌, subst}
 use Rattle.std.specs.Prelude.{Result, Ok, Err, Option}
 use Rattle.std.specs.Result.{IsErrAnd}
 use Rattle.std.specs.Option.{option_map_or}
@@ -8,12 +8,11 @@ use Rattle.cedar_expr_model.specs.Builder.{conjunction, disjunction}
 use Rattle.cedar_expr_model.specs.Made.{Made, made_prim}
 use Rattle.cedar_expr_model.specs.Table.{Table, Called}
 use Rattle.cedar_expr_model.specs.Tree.{Var, SlotId, CoreType, Tree, lit, var, slot, unknown, choice, both, either}
-use Rattle.cedar_expr_model.specs.Value.{Literal, truth, entity, V}
+use Rattle.cedar_expr_model.specs.Value.{Literal, entity, V}
 use Rattle.cedar_expr_values.specs.declared.extension.ExtValue.{ExtValue}
 use Rattle.cedar_expr_trees.specs.Trees.{tree_of}
 use Rattle.cedar_expr_trees.specs.declared.expr.Expr.{Expr}
 use Rattle.cedar_expr_partial.specs.declared.partial_value.PartialValue.{PartialValue}
-use Rattle.cedar_expr_partial.specs.declared.partial_value.PartialValue.TheVariants as partial
 use Rattle.cedar_store_model.specs.Outcome.{unlinked_slot}
 use Rattle.cedar_evaluator_model.specs.Scope.{Scope, MadeCalled, Stop, Left, value_left, residual, stopped}
 use Rattle.cedar_evaluator_model.specs.Steps.{errs, truth_left, on_value, best, picks, mapped}

@@ -1,5 +1,6 @@
 pub mod Completed
 pub mod Gathered
+pub mod Lent
 pub mod Operands
 pub mod Walked
 pub mod Evaluators

@@ -7,6 +7,7 @@ pub mod calls;
 pub mod evaluator;
 mod fields;
 mod gathering;
+mod lending;
 mod outcomes;
 pub mod parts;
 pub mod rebuilt;

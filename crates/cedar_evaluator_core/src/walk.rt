@@ -20,6 +20,7 @@ use crate::after::{
 use crate::calls::call_left;
 use crate::fields::{fields_of, next_field};
 use crate::gathering::{members_of, room, room_for_fields, with_next};
+use crate::lending::{Lent, value_lent};
 use crate::parts::{record_left, set_left};
 use crate::rebuilt::{expr_of, get_of, given_up, is_left, like_left, unary_left};
 use crate::tested::tested;
@@ -58,6 +59,22 @@ pub fn walk<T: FunctionTable>(
         level(alloc, known, limit - 1, e.expr_kind(), source_loc),
         source_loc,
     )
+}
+
+// What is left of a part of which a truth value is wanted: most are found without a copy.
+#[cycle(walk)]
+fn part<T: FunctionTable>(
+    alloc: Global,
+    known: &Knowledge<'_, T>,
+    limit: u32,
+    e: &Expr,
+) -> Result<Left, EvaluationError>
+    ensures { LeavesWithin T.table T.answers_as known.now limit (tree_of e.now) result }
+{
+    match value_lent(alloc, &*known, limit, &*e) {
+        Some(Lent::Truth(b)) => settled(b),
+        _ => walk(alloc, known, limit, e),
+    }
 }
 
 // One level.
@@ -220,7 +237,7 @@ fn choice<T: FunctionTable>(
 ) -> Result<Left, EvaluationError>
     ensures { LeavesLevel T.table T.answers_as known.now deeper (choice (tree_of test.now) (tree_of first.now) (tree_of last.now)) result }
 {
-    match truth_after(alloc, walk(alloc, known, deeper, test)) {
+    match truth_after(alloc, part(alloc, known, deeper, test)) {
         Truth::Holds => walk(alloc, known, deeper, first),
         Truth::Fails => walk(alloc, known, deeper, last),
         Truth::Open(r) => match attempt(alloc, known, deeper, first) {
@@ -242,8 +259,8 @@ fn both<T: FunctionTable>(
 ) -> Result<Left, EvaluationError>
     ensures { LeavesLevel T.table T.answers_as known.now deeper (both (tree_of left.now) (tree_of right.now)) result }
 {
-    match truth_after(alloc, walk(alloc, known, deeper, left)) {
-        Truth::Holds => and_after(alloc, walk(alloc, known, deeper, right)),
+    match truth_after(alloc, part(alloc, known, deeper, left)) {
+        Truth::Holds => and_after(alloc, part(alloc, known, deeper, right)),
         Truth::Fails => settled(false),
         Truth::Open(r) => and_stays(alloc, r, attempt(alloc, known, deeper, right)),
         Truth::Stops(error) => Err(error),
@@ -261,9 +278,9 @@ fn either<T: FunctionTable>(
 ) -> Result<Left, EvaluationError>
     ensures { LeavesLevel T.table T.answers_as known.now deeper (either (tree_of left.now) (tree_of right.now)) result }
 {
-    match truth_after(alloc, walk(alloc, known, deeper, left)) {
+    match truth_after(alloc, part(alloc, known, deeper, left)) {
         Truth::Holds => settled(true),
-        Truth::Fails => or_after(alloc, walk(alloc, known, deeper, right)),
+        Truth::Fails => or_after(alloc, part(alloc, known, deeper, right)),
         Truth::Open(r) => or_stays(alloc, r, attempt(alloc, known, deeper, right)),
         Truth::Stops(error) => Err(error),
     }

@@ -1,4 +1,4 @@
-use Rattle.std.proofs.Common.{sym, ap, ◌∙◌, rules}
+use Rattle.std.proofs.Common.{ap, rules}
 use Rattle.cedar_expr_trees.specs.Trees.{tree_of}
 use Rattle.cedar_evaluator_model.specs.Scope.{limit}
 use Rattle.cedar_evaluator_model.specs.Steps.{best}

@@ -10,17 +10,17 @@ use Rattle.cedar_expr_names.specs.Views.{plain_name_of, type_name_of}
 use Rattle.cedar_expr_model.specs.Builder.{trees, tree_fields}
 use Rattle.cedar_expr_model.specs.Tree.{choice, both, either, unary, binary, call, get_attr, has_attr, has_path, like, is_type, set_literal, record_literal}
 use Rattle.cedar_expr_trees.specs.Trees.{tree_of, kind_tree, named, field_trees}
-use Rattle.cedar_expr_trees.specs.Unknowns.{unknown_of}
 use Rattle.cedar_expr_trees.proofs.Trees.{call_tree, set_tree, record_tree}
 use Rattle.cedar_evaluator_model.specs.Steps.{best}
 use Rattle.cedar_evaluator_errors.specs.Outcomes.{IsTree, Leaves}
-use Rattle.cedar_evaluator_model.specs.Evaluation.{evaluated, node}
+use Rattle.cedar_evaluator_model.specs.Evaluation.{evaluated}
 use Rattle.cedar_evaluator_operators.specs.Scopes.{scope_of}
-use Rattle.cedar_evaluator_core.specs.Walked.{LeavesLevel}
+use Rattle.std.specs.Prelude.{Some}
+use Rattle.cedar_evaluator_core.proofs.Lent.{truth_lent}
 use Rattle.cedar_evaluator_core.proofs.Levels.{one_level, at_zero}
 use Rattle.cedar_evaluator_core.proofs.Gathered.{SoFar, trees_in, starts, says_nothing, on, off, all, field_on, field_off, fields_all, fewer}
 use Rattle.cedar_evaluator_core.proofs.Nodes.{in_tree, literal_says, variable_says, slot_says, unknown_says, choice_stops, choice_holds, choice_fails, choice_open, choice_given_up, both_stops, both_holds, both_fails, both_open, either_stops, either_holds, either_fails, either_open}
-use Rattle.cedar_evaluator_core.proofs.OneLevel.{unary_stops, unary_goes, like_stops, like_goes, type_stops, type_goes, test_stops, test_goes, path_stops, path_goes, get_stops, get_value, get_residual, field_stays, field_missing, field_again, field_kept, binary_stops, binary_right_stops, binary_goes, call_stops, call_goes, set_stops, set_goes, record_stops, record_goes}
+use Rattle.cedar_evaluator_core.proofs.OneLevel.{unary_stops, unary_goes, like_stops, like_goes, type_stops, type_goes, test_stops, test_goes, path_stops, path_goes, get_stops, get_value, get_residual, field_stays, field_again, binary_stops, binary_right_stops, binary_goes, call_stops, call_goes, set_stops, set_goes, record_stops, record_goes}
 use Rattle.cedar_evaluator_core.proofs.walk.+walk.Goals as goal
 
 pub walk-returns-then-limit-eq0 : goal.walk-returns-then-limit-eq0
@@ -28,6 +28,9 @@ walk-returns-then-limit-eq0 g t c = record { leaves = λ fs s other m. at_zero (
 
 pub walk-returns : goal.walk-returns
 walk-returns g t c = record { leaves = λ fs s. c.placed.ensures _ (subst (λ l. Leaves l c.level.result) (sym (one_level (scope_of g.T.FunctionTable.table fs c.args.known.now) _ _ _ (omega arith) c.expr_kind.ensures.tree)) (c.level.ensures.leaves fs s)) }
+
+pub part-returns-in-Some-Truth : goal.part-returns-in-Some-Truth
+part-returns-in-Some-Truth g t c = record { leaves = λ fs s. subst (λ l. Leaves l c.settled.result) (sym (truth_lent _ _ c.in-Some-Truth.b (ap Some c.in-Some-Truth.field-0-is) (c.in-Some-Truth.ensures.lends fs))) c.settled.ensures }
 
 pub level-returns-in-Lit : goal.level-returns-in-Lit
 level-returns-in-Lit g t c = in_tree g.T.FunctionTable.table g.T.FunctionTable.answers_as c.args.known.now c.args.deeper _ _ _ (ap (kind_tree {T = Unit}) c.in-Lit.is) (literal_says g.T.FunctionTable.table g.T.FunctionTable.answers_as c.args.known.now c.args.deeper _ (literal_of c.in-Lit.literal) c.literal_value.ensures)
@@ -159,43 +162,43 @@ pub binary-returns-in-Ok-walk : goal.binary-returns-in-Ok-walk
 binary-returns-in-Ok-walk g t c = binary_goes g.T.FunctionTable.table g.T.FunctionTable.answers_as c.args.known.now c.args.deeper (binary_op_of c.args.op) _ _ _ g.T.FunctionTable.ordered_types_in (λ fs. g.met.T.FunctionTable.orders c.args.known.now.table.now fs.answers) _ _ c.in-Ok.ensures c.in-Ok-walk.ensures c.binary_left.ensures
 
 pub choice-returns-in-Holds : goal.choice-returns-in-Holds
-choice-returns-in-Holds g t c = choice_holds g.T.FunctionTable.table g.T.FunctionTable.answers_as c.args.known.now c.args.deeper (tree_of {T = Unit} c.args.test.now) (tree_of {T = Unit} c.args.first.now) (tree_of {T = Unit} c.args.last.now) _ c.walk.ensures _ c.in-Holds.ensures c.walk-in-Holds.ensures
+choice-returns-in-Holds g t c = choice_holds g.T.FunctionTable.table g.T.FunctionTable.answers_as c.args.known.now c.args.deeper (tree_of {T = Unit} c.args.test.now) (tree_of {T = Unit} c.args.first.now) (tree_of {T = Unit} c.args.last.now) _ c.part.ensures _ c.in-Holds.ensures c.walk.ensures
 
 pub choice-returns-in-Fails : goal.choice-returns-in-Fails
-choice-returns-in-Fails g t c = choice_fails g.T.FunctionTable.table g.T.FunctionTable.answers_as c.args.known.now c.args.deeper (tree_of {T = Unit} c.args.test.now) (tree_of {T = Unit} c.args.first.now) (tree_of {T = Unit} c.args.last.now) _ c.walk.ensures _ c.in-Fails.ensures c.walk-in-Fails.ensures
+choice-returns-in-Fails g t c = choice_fails g.T.FunctionTable.table g.T.FunctionTable.answers_as c.args.known.now c.args.deeper (tree_of {T = Unit} c.args.test.now) (tree_of {T = Unit} c.args.first.now) (tree_of {T = Unit} c.args.last.now) _ c.part.ensures _ c.in-Fails.ensures c.walk-in-Fails.ensures
 
 pub choice-returns-in-Ok : goal.choice-returns-in-Ok
-choice-returns-in-Ok g t c = choice_open g.T.FunctionTable.table g.T.FunctionTable.answers_as c.args.known.now c.args.deeper (tree_of {T = Unit} c.args.test.now) (tree_of {T = Unit} c.args.first.now) (tree_of {T = Unit} c.args.last.now) _ c.walk.ensures _ c.in-Open.r _ c.in-Open.ensures c.in-Ok.ensures _ c.attempt-in-Ok.ensures c.choice_stays.ensures
+choice-returns-in-Ok g t c = choice_open g.T.FunctionTable.table g.T.FunctionTable.answers_as c.args.known.now c.args.deeper (tree_of {T = Unit} c.args.test.now) (tree_of {T = Unit} c.args.first.now) (tree_of {T = Unit} c.args.last.now) _ c.part.ensures _ c.in-Open.r _ c.in-Open.ensures c.in-Ok.ensures _ c.attempt-in-Ok.ensures c.choice_stays.ensures
 
 pub choice-returns-in-Err : goal.choice-returns-in-Err
-choice-returns-in-Err g t c = choice_given_up g.T.FunctionTable.table g.T.FunctionTable.answers_as c.args.known.now c.args.deeper (tree_of {T = Unit} c.args.test.now) (tree_of {T = Unit} c.args.first.now) (tree_of {T = Unit} c.args.last.now) _ c.walk.ensures c.in-Open.r _ c.in-Open.ensures c.in-Err.ensures
+choice-returns-in-Err g t c = choice_given_up g.T.FunctionTable.table g.T.FunctionTable.answers_as c.args.known.now c.args.deeper (tree_of {T = Unit} c.args.test.now) (tree_of {T = Unit} c.args.first.now) (tree_of {T = Unit} c.args.last.now) _ c.part.ensures c.in-Open.r _ c.in-Open.ensures c.in-Err.ensures
 
 pub choice-returns-in-Stops : goal.choice-returns-in-Stops
-choice-returns-in-Stops g t c = choice_stops g.T.FunctionTable.table g.T.FunctionTable.answers_as c.args.known.now c.args.deeper (tree_of {T = Unit} c.args.test.now) (tree_of {T = Unit} c.args.first.now) (tree_of {T = Unit} c.args.last.now) _ c.walk.ensures _ c.in-Stops.ensures
+choice-returns-in-Stops g t c = choice_stops g.T.FunctionTable.table g.T.FunctionTable.answers_as c.args.known.now c.args.deeper (tree_of {T = Unit} c.args.test.now) (tree_of {T = Unit} c.args.first.now) (tree_of {T = Unit} c.args.last.now) _ c.part.ensures _ c.in-Stops.ensures
 
 pub both-returns-in-Fails : goal.both-returns-in-Fails
-both-returns-in-Fails g t c = both_fails g.T.FunctionTable.table g.T.FunctionTable.answers_as c.args.known.now c.args.deeper (tree_of {T = Unit} c.args.left.now) (tree_of {T = Unit} c.args.right.now) _ c.walk.ensures _ c.in-Fails.ensures c.settled.ensures
+both-returns-in-Fails g t c = both_fails g.T.FunctionTable.table g.T.FunctionTable.answers_as c.args.known.now c.args.deeper (tree_of {T = Unit} c.args.left.now) (tree_of {T = Unit} c.args.right.now) _ c.part.ensures _ c.in-Fails.ensures c.settled.ensures
 
 pub both-returns-in-Open : goal.both-returns-in-Open
-both-returns-in-Open g t c = both_open g.T.FunctionTable.table g.T.FunctionTable.answers_as c.args.known.now c.args.deeper (tree_of {T = Unit} c.args.left.now) (tree_of {T = Unit} c.args.right.now) _ c.walk.ensures _ c.in-Open.r c.in-Open.ensures _ c.attempt.ensures c.and_stays.ensures
+both-returns-in-Open g t c = both_open g.T.FunctionTable.table g.T.FunctionTable.answers_as c.args.known.now c.args.deeper (tree_of {T = Unit} c.args.left.now) (tree_of {T = Unit} c.args.right.now) _ c.part.ensures _ c.in-Open.r c.in-Open.ensures _ c.attempt.ensures c.and_stays.ensures
 
 pub both-returns-in-Stops : goal.both-returns-in-Stops
-both-returns-in-Stops g t c = both_stops g.T.FunctionTable.table g.T.FunctionTable.answers_as c.args.known.now c.args.deeper (tree_of {T = Unit} c.args.left.now) (tree_of {T = Unit} c.args.right.now) _ c.walk.ensures _ c.in-Stops.ensures
+both-returns-in-Stops g t c = both_stops g.T.FunctionTable.table g.T.FunctionTable.answers_as c.args.known.now c.args.deeper (tree_of {T = Unit} c.args.left.now) (tree_of {T = Unit} c.args.right.now) _ c.part.ensures _ c.in-Stops.ensures
 
 pub both-returns-in-Holds : goal.both-returns-in-Holds
-both-returns-in-Holds g t c = both_holds g.T.FunctionTable.table g.T.FunctionTable.answers_as c.args.known.now c.args.deeper (tree_of {T = Unit} c.args.left.now) (tree_of {T = Unit} c.args.right.now) _ c.walk.ensures _ c.in-Holds.ensures _ c.walk-in-Holds.ensures c.and_after.ensures
+both-returns-in-Holds g t c = both_holds g.T.FunctionTable.table g.T.FunctionTable.answers_as c.args.known.now c.args.deeper (tree_of {T = Unit} c.args.left.now) (tree_of {T = Unit} c.args.right.now) _ c.part.ensures _ c.in-Holds.ensures _ c.part-in-Holds.ensures c.and_after.ensures
 
 pub either-returns-in-Holds : goal.either-returns-in-Holds
-either-returns-in-Holds g t c = either_holds g.T.FunctionTable.table g.T.FunctionTable.answers_as c.args.known.now c.args.deeper (tree_of {T = Unit} c.args.left.now) (tree_of {T = Unit} c.args.right.now) _ c.walk.ensures _ c.in-Holds.ensures c.settled.ensures
+either-returns-in-Holds g t c = either_holds g.T.FunctionTable.table g.T.FunctionTable.answers_as c.args.known.now c.args.deeper (tree_of {T = Unit} c.args.left.now) (tree_of {T = Unit} c.args.right.now) _ c.part.ensures _ c.in-Holds.ensures c.settled.ensures
 
 pub either-returns-in-Open : goal.either-returns-in-Open
-either-returns-in-Open g t c = either_open g.T.FunctionTable.table g.T.FunctionTable.answers_as c.args.known.now c.args.deeper (tree_of {T = Unit} c.args.left.now) (tree_of {T = Unit} c.args.right.now) _ c.walk.ensures _ c.in-Open.r c.in-Open.ensures _ c.attempt.ensures c.or_stays.ensures
+either-returns-in-Open g t c = either_open g.T.FunctionTable.table g.T.FunctionTable.answers_as c.args.known.now c.args.deeper (tree_of {T = Unit} c.args.left.now) (tree_of {T = Unit} c.args.right.now) _ c.part.ensures _ c.in-Open.r c.in-Open.ensures _ c.attempt.ensures c.or_stays.ensures
 
 pub either-returns-in-Stops : goal.either-returns-in-Stops
-either-returns-in-Stops g t c = either_stops g.T.FunctionTable.table g.T.FunctionTable.answers_as c.args.known.now c.args.deeper (tree_of {T = Unit} c.args.left.now) (tree_of {T = Unit} c.args.right.now) _ c.walk.ensures _ c.in-Stops.ensures
+either-returns-in-Stops g t c = either_stops g.T.FunctionTable.table g.T.FunctionTable.answers_as c.args.known.now c.args.deeper (tree_of {T = Unit} c.args.left.now) (tree_of {T = Unit} c.args.right.now) _ c.part.ensures _ c.in-Stops.ensures
 
 pub either-returns-in-Fails : goal.either-returns-in-Fails
-either-returns-in-Fails g t c = either_fails g.T.FunctionTable.table g.T.FunctionTable.answers_as c.args.known.now c.args.deeper (tree_of {T = Unit} c.args.left.now) (tree_of {T = Unit} c.args.right.now) _ c.walk.ensures _ c.in-Fails.ensures _ c.walk-in-Fails.ensures c.or_after.ensures
+either-returns-in-Fails g t c = either_fails g.T.FunctionTable.table g.T.FunctionTable.answers_as c.args.known.now c.args.deeper (tree_of {T = Unit} c.args.left.now) (tree_of {T = Unit} c.args.right.now) _ c.part.ensures _ c.in-Fails.ensures _ c.part-in-Fails.ensures c.or_after.ensures
 
 pub called-returns-in-Err : goal.called-returns-in-Err
 called-returns-in-Err g t c = call_stops g.T.FunctionTable.table g.T.FunctionTable.answers_as c.args.known.now c.args.deeper _ _ _ _ c.in-Err.ensures refl

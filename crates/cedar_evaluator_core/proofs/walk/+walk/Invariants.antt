@@ -9,6 +9,9 @@ use Rattle.cedar_evaluator_core.proofs.walk.+walk.Given as goal
 abbrev pub decreases-walk : goal.decreases-walk
 decreases-walk g l = 5 * l.limit
 
+abbrev pub decreases-part : goal.decreases-part
+decreases-part g l = 5 * l.limit + 1
+
 abbrev pub decreases-level : goal.decreases-level
 decreases-level g l = 5 * l.deeper + 3
 
