@@ -19,13 +19,12 @@ use Rattle.cedar_expr_values.specs.Members.{value_kept}
 use Rattle.cedar_expr_values.specs.Values.{made}
 use Rattle.cedar_expr_values.specs.declared.extension.ExtValue.{ExtValue}
 use Rattle.cedar_expr_values.specs.declared.value.Value.{Value}
-use Rattle.cedar_expr_names.specs.declared.entity.EntityUID.{EntityUID}
 use Rattle.cedar_expr_partial.specs.declared.partial_value.PartialValue.{PartialValue}
 use Rattle.cedar_expr_partial.specs.declared.partial_value.PartialValue.TheVariants.{Value as Whole, Residual}
 use Rattle.cedar_store_model.specs.Store.{Extent, whole, partial, if_uid, extent_for}
 use Rattle.cedar_store_model.specs.World.{Found, missing}
 use Rattle.cedar_store_entities.specs.StoreParts.{kept_in}
-use Rattle.cedar_store_entities.specs.Stores.{store_seen, store_made}
+use Rattle.cedar_store_entities.specs.Stores.{entities_kept, store_seen, store_made}
 use Rattle.cedar_store_entities.specs.Views.{Kept, entity_seen, entity_uid, entity_kept, part_pair, part_seen}
 use Rattle.cedar_store_entities.specs.declared.entities.Entities.{Entities}
 use Rattle.cedar_store_entities.specs.declared.entity.Entity.{Entity}
@@ -77,14 +76,14 @@ first_or_other : (x : Extent) (b : Bool) (e : Entity) (o : Option Kept) → IsFo
 first_or_other x true e o h = entity_canonical e
 first_or_other x false e o h = h
 
-kept_canonical : (x : Extent) (es : List (EntityUID × Entity)) (u : Uid) → IsFoundCanonical (found_kept x (lookup (uid_eq u) (kept_in es)))
+kept_canonical : (x : Extent) (es : List Entity) (u : Uid) → IsFoundCanonical (found_kept x (lookup (uid_eq u) (kept_in es)))
 kept_canonical whole [] u = tt
 kept_canonical partial [] u = tt
-kept_canonical x (e ∷ es) u = first_or_other x (uid_eq u (entity_uid e.1)) e.1 (lookup (uid_eq u) (kept_in es)) (kept_canonical x es u)
+kept_canonical x (e ∷ es) u = first_or_other x (uid_eq u (entity_uid e)) e (lookup (uid_eq u) (kept_in es)) (kept_canonical x es u)
 
 found_there : (b : Bool) (f : Found Made) → IsFoundCanonical f → IsFoundCanonical (cond b f missing)
 found_there true f h = h
 found_there false f h = tt
 
 pub store_canonical : (s : Entities) (u : Uid) → IsFoundCanonical (store_of s u)
-store_canonical s u = found_there (is_uid u) (found_kept (extent_for (store_seen s) u) (lookup (uid_eq u) (store_made s))) (kept_canonical (extent_for (store_seen s) u) s.entities.entries u)
+store_canonical s u = found_there (is_uid u) (found_kept (extent_for (store_seen s) u) (lookup (uid_eq u) (store_made s))) (kept_canonical (extent_for (store_seen s) u) (entities_kept s) u)

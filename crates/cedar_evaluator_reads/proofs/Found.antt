@@ -11,7 +11,6 @@ use Rattle.std.specs.Str.{bytes_eq}
 use Rattle.std.specs.declared.alloc.Global.{Global}
 use Rattle.std.specs.declared.rc.RcStr.{RcStr}
 use Rattle.cedar_expr_names.specs.Views.{uid_of}
-use Rattle.cedar_expr_names.specs.declared.entity.EntityUID.{EntityUID}
 use Rattle.cedar_expr_model.specs.Name.{Text}
 use Rattle.cedar_expr_model.specs.Uid.{Uid, uid_eq}
 use Rattle.cedar_expr_model.specs.Uids.{is_uid}
@@ -29,7 +28,7 @@ use Rattle.cedar_expr_trees.specs.declared.expr.Expr.{Expr}
 use Rattle.cedar_store_model.specs.Store.{Extent, whole, partial, found_as, extent_for, look_up}
 use Rattle.cedar_store_model.specs.World as model
 use Rattle.cedar_store_model.specs.World.{Found, held, missing, not_loaded}
-use Rattle.cedar_store_entities.specs.Stores.{store_seen, store_made, Dereferences}
+use Rattle.cedar_store_entities.specs.Stores.{entities_kept, store_seen, store_made, Dereferences}
 use Rattle.cedar_store_entities.specs.StoreParts.{entities_in, kept_in}
 use Rattle.cedar_store_entities.specs.Views.{Kept, entity_uid, entity_seen, entity_kept, bare_entity}
 use Rattle.cedar_store_entities.specs.declared.entity.Entity.{Entity}
@@ -81,11 +80,11 @@ expr_is a es r h = sym (expr_found a es) ∙ ap (option_map (tree_of {T = Unit})
 abbrev bare_kept : Kept → model.Entity V
 bare_kept k = bare_entity k.0
 
-among : (u : Uid) (es : List (EntityUID × Entity)) → lookup (uid_eq u) (entities_in es) ≡ option_map bare_kept (lookup (uid_eq u) (kept_in es))
+among : (u : Uid) (es : List Entity) → lookup (uid_eq u) (entities_in es) ≡ option_map bare_kept (lookup (uid_eq u) (kept_in es))
 among u [] = refl
-among u (e ∷ es) = go (uid_eq u (entity_uid e.1)) (among u es)
+among u (e ∷ es) = go (uid_eq u (entity_uid e)) (among u es)
   where
-    go : (b : Bool) → lookup (uid_eq u) (entities_in es) ≡ option_map bare_kept (lookup (uid_eq u) (kept_in es)) → cond b (Some (bare_entity (entity_seen e.1))) (lookup (uid_eq u) (entities_in es)) ≡ option_map bare_kept (cond b (Some (entity_kept e.1)) (lookup (uid_eq u) (kept_in es)))
+    go : (b : Bool) → lookup (uid_eq u) (entities_in es) ≡ option_map bare_kept (lookup (uid_eq u) (kept_in es)) → cond b (Some (bare_entity (entity_seen e))) (lookup (uid_eq u) (entities_in es)) ≡ option_map bare_kept (cond b (Some (entity_kept e)) (lookup (uid_eq u) (kept_in es)))
     go true h = refl
     go false h = h
 
@@ -106,7 +105,7 @@ is_held false x o e k h p = absurd (cc)
 is_held true x o e k h p = ap (found_kept x) p
 
 looked : (s : Entities) (u : Uid) (f : Found V) → look_up (store_seen s) u ≡ f → cond (is_uid u) (found_as (extent_for (store_seen s) u) (option_map bare_kept (lookup (uid_eq u) (store_made s)))) missing ≡ f
-looked s u f h = ap (λ o. cond (is_uid u) (found_as (extent_for (store_seen s) u) o) missing) (sym (among u s.entities.entries)) ∙ h
+looked s u f h = ap (λ o. cond (is_uid u) (found_as (extent_for (store_seen s) u) o) missing) (sym (among u (entities_kept s))) ∙ h
 
 -- what the store answers
 pub is_found : (s : Entities) (u : Uid) (d : Dereference Entity) → Dereferences s u d → IsFound (store_of s u) u d

@@ -11,7 +11,7 @@ use Rattle.cedar_expr_functions.specs.declared.extensions.Extensions.{Extensions
 use Rattle.cedar_expr_model.specs.Table.{Table}
 use Rattle.cedar_expr_model.specs.Uid.{uid_eq}
 use Rattle.cedar_schema_model.specs.Declarations.{Declarations}
-use Rattle.cedar_store_entities.specs.StoreParts.{kept_in}
+use Rattle.cedar_store_entities.specs.Stores.{entities_kept, store_made}
 use Rattle.cedar_store_entities.specs.Views.{Kept, bare_entity}
 use Rattle.cedar_store_parts.specs.Parts.{id_text}
 use Rattle.cedar_store_policies.specs.declared.policy.Policy.{Policy}
@@ -46,7 +46,7 @@ bare_of (Some k) = refl
 
 store_is : (x : Functions) (b : Bundle) → IsStoreWritten x.table b.store → IsStore (course_of x (bundle_of x b)) b.store
 store_is x b h = record {
-  each = λ u. found_bare b.store.entities.entries u ∙ bare_of (lookup (uid_eq u) (kept_in b.store.entities.entries));
+  each = λ u. found_bare (entities_kept b.store) u ∙ bare_of (lookup (uid_eq u) (store_made b.store));
   written = λ u e k. h.written u e k;
 }
 

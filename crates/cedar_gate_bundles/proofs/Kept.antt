@@ -4,7 +4,6 @@ use Rattle.std.specs.Prelude.{Result, Ok, Err, IfOk, IfErr}
 use Rattle.std.specs.Map.{lookup}
 use Rattle.serde_json.specs.Data.{Data, Items, no_items, item}
 use Rattle.serde_json.specs.Find.{as_array}
-use Rattle.cedar_expr_names.specs.declared.entity.EntityUID.{EntityUID}
 use Rattle.cedar_expr_model.specs.Name.{Text}
 use Rattle.cedar_expr_model.specs.Uid.{Uid, uid_eq}
 use Rattle.cedar_expr_model.specs.Lists.{when}
@@ -15,7 +14,7 @@ use Rattle.cedar_expr_model.specs.ValueParts.{Part}
 use Rattle.cedar_store_model.specs.World as world
 use Rattle.cedar_store_model.specs.World.{held}
 use Rattle.cedar_store_entities.specs.StoreParts.{entities_in, kept_in}
-use Rattle.cedar_store_entities.specs.Stores.{store_seen, store_made}
+use Rattle.cedar_store_entities.specs.Stores.{entities_kept, store_seen, store_made}
 use Rattle.cedar_store_entities.specs.Views.{Kept, entity_uid, entity_of, entity_seen, entity_kept, kept_pair, entity_pair, bare_part, bare_entity}
 use Rattle.cedar_store_entities.specs.declared.entities.Entities.{Entities}
 use Rattle.cedar_store_entities.specs.declared.entity.Entity.{Entity}
@@ -99,14 +98,14 @@ store_written x es s k h =
     record { written = subst (λ (ks : List (Uid × Kept)). (u : Uid) (e : world.Entity Made) → option_map (λ (k : Kept). k.0) (lookup (uid_eq u) ks) ≡ Some e → IsFoundMadeWell x (held e)) (sym k) (found_well x es h) }
 
 -- the entity of a uid is the one that is kept under it, without the calls
-same_entry : (es : List (EntityUID × Entity)) (u : Uid) → lookup (uid_eq u) (entities_in es) ≡ option_map bare_entity (option_map (λ (k : Kept). k.0) (lookup (uid_eq u) (kept_in es)))
+same_entry : (es : List Entity) (u : Uid) → lookup (uid_eq u) (entities_in es) ≡ option_map bare_entity (option_map (λ (k : Kept). k.0) (lookup (uid_eq u) (kept_in es)))
 same_entry [] u = refl
 same_entry (f ∷ es) u =
-    elim (uid_eq u (entity_uid f.1)) as (λ c. (if c then Some (entity_of f.1) else lookup (uid_eq u) (entities_in es)) ≡ option_map bare_entity (option_map (λ (k : Kept). k.0) (if c then Some (entity_kept f.1) else lookup (uid_eq u) (kept_in es))))
+    elim (uid_eq u (entity_uid f)) as (λ c. (if c then Some (entity_of f) else lookup (uid_eq u) (entities_in es)) ≡ option_map bare_entity (option_map (λ (k : Kept). k.0) (if c then Some (entity_kept f) else lookup (uid_eq u) (kept_in es))))
     [ true ↦ refl | false ↦ same_entry es u ]
 
 pub each_kept : (s : Entities) (u : Uid) → lookup (uid_eq u) (store_seen s).entities ≡ option_map bare_entity (option_map (λ (k : Kept). k.0) (lookup (uid_eq u) (store_made s)))
-each_kept s u = same_entry s.entities.entries u
+each_kept s u = same_entry (entities_kept s) u
 
 -- what holds of a result, as it does of what it holds
 pub if_ok : {A E : Type 0} (P Q : A → Type 0) (r : Result A E) → ((a : A) → P a → Q a) → IfOk r P → IfOk r Q

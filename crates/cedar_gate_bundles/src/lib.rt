@@ -15,3 +15,4 @@ mod values;
 
 pub use bundle::{Bundle, Submission, read_bundle, read_input};
 pub use cedar_gate_expressions::ReadFault;
+pub use stores::read_entity;

@@ -39,6 +39,21 @@ pub(crate) fn read_store(
     }
 }
 
+/// Reads one entity of a store. Its values are evaluated by the functions of the table.
+///
+/// # Errors
+/// `Unreadable` where the value is no entity of a bundle's store, and `OutOfMemory`.
+pub fn read_entity(
+    alloc: Global,
+    table: &Extensions<'_>,
+    value: &Value,
+) -> Result<Entity, ReadFault>
+    ensures ok { IfOk result (λ e. ReadsAs table.now (λ x. entity_read_made x (view value.now)) (entity_pair_made e)) }
+    ensures unreadable { IfErr result (λ f. IsUnreadable table.now (λ x. entity_read_made x (view value.now)) f) }
+{
+    StoredEntities.read(alloc, table, value)
+}
+
 // Reads the entities of a store.
 fn read_entities(
     alloc: Global,

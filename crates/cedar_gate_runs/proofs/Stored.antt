@@ -12,7 +12,7 @@ use Rattle.cedar_store_model.specs.World as world
 use Rattle.cedar_store_model.specs.World.{Found, missing, not_loaded}
 use Rattle.cedar_store_model.specs.Store.{Extent, whole, partial, found_as, extent_for, look_up}
 use Rattle.cedar_store_entities.specs.StoreParts.{entities_in, kept_in}
-use Rattle.cedar_store_entities.specs.Stores.{store_seen, store_made}
+use Rattle.cedar_store_entities.specs.Stores.{entities_kept, store_seen, store_made}
 use Rattle.cedar_store_entities.specs.Views.{Kept, bare_entity, entity_uid, entity_kept, kept_pair}
 use Rattle.cedar_store_entities.specs.declared.entities.Entities.{Entities}
 use Rattle.cedar_store_entities.specs.declared.entity.Entity.{Entity}
@@ -27,9 +27,9 @@ one_more true e o k h = refl
 one_more false e o k h = h
 
 -- what is found without the calls is what is kept, without them
-pub found_bare : (es : List (EntityUID × Entity)) (u : Uid) → lookup (uid_eq u) (entities_in es) ≡ option_map bare_kept (lookup (uid_eq u) (kept_in es))
+pub found_bare : (es : List Entity) (u : Uid) → lookup (uid_eq u) (entities_in es) ≡ option_map bare_kept (lookup (uid_eq u) (kept_in es))
 found_bare [] u = refl
-found_bare (e ∷ es) u = one_more (uid_eq u (entity_uid e.1)) e.1 _ _ (found_bare es u)
+found_bare (e ∷ es) u = one_more (uid_eq u (entity_uid e)) e _ _ (found_bare es u)
 
 none_kept : (k : Option Kept) (o : Option (world.Entity V)) → o ≡ option_map bare_kept k → o ≡ None → k ≡ None
 none_kept None o e n = refl
@@ -58,14 +58,14 @@ by_copy s u v e c same h own copy kept =
     λ i. (same i, (ap Some pair ∙ ap (λ (o : Option Kept). option_map (λ (x : world.Entity Made). (u, x)) (option_map (λ (k : Kept). k.0) o)) (sym h)) i)
 
 module _ (s : Entities) (u : Uid) (v : EntityUID) (uid : is_uid u ≡ true) (same : uid_of v ≡ u) where
-  by_nothing : lookup (uid_eq u) (entities_in s.entities.entries) ≡ None → answered_of (v, None) ≡ answer_from (stored (store_made s)) u
+  by_nothing : lookup (uid_eq u) (entities_in (entities_kept s)) ≡ None → answered_of (v, None) ≡ answer_from (stored (store_made s)) u
   by_nothing n =
-      let none : lookup (uid_eq u) (store_made s) ≡ None = none_kept _ _ (found_bare s.entities.entries u) n in
+      let none : lookup (uid_eq u) (store_made s) ≡ None = none_kept _ _ (found_bare (entities_kept s) u) n in
       λ i. (same i, ap (λ (o : Option Kept). option_map (λ (x : world.Entity Made). (u, x)) (option_map (λ (k : Kept). k.0) o)) (sym none) i)
 
   -- nothing is answered where nothing is held
   pub by_none : look_up (store_seen s) u ≡ missing → answered_of (v, None) ≡ answer_from (stored (store_made s)) u
-  by_none h = by_nothing (is_missing (extent_for (store_seen s) u) _ (of_uid (is_uid u) (found_as (extent_for (store_seen s) u) (lookup (uid_eq u) (entities_in s.entities.entries))) missing missing uid h))
+  by_none h = by_nothing (is_missing (extent_for (store_seen s) u) _ (of_uid (is_uid u) (found_as (extent_for (store_seen s) u) (lookup (uid_eq u) (entities_in (entities_kept s)))) missing missing uid h))
 
   pub by_unloaded : look_up (store_seen s) u ≡ not_loaded → answered_of (v, None) ≡ answer_from (stored (store_made s)) u
-  by_unloaded h = by_nothing (is_unloaded (extent_for (store_seen s) u) _ (of_uid (is_uid u) (found_as (extent_for (store_seen s) u) (lookup (uid_eq u) (entities_in s.entities.entries))) missing not_loaded uid h))
+  by_unloaded h = by_nothing (is_unloaded (extent_for (store_seen s) u) _ (of_uid (is_uid u) (found_as (extent_for (store_seen s) u) (lookup (uid_eq u) (entities_in (entities_kept s)))) missing not_loaded uid h))

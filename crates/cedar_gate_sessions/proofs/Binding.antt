@@ -24,6 +24,7 @@ use Rattle.cedar_gate_openings.specs.Requests.{request_at, AreValuesOf}
 use Rattle.cedar_gate_openings.specs.Roots.{known_roots}
 use Rattle.cedar_gate_wanted.specs.Wanting.{IsWanting, near_in, mentions_of, level_of}
 use Rattle.cedar_gate_sessions.specs.Faults.{IsBindFault, IsBindFaultBy, IsContextFault}
+use Rattle.cedar_gate_sessions.specs.Entities.{IsSameStore}
 use Rattle.cedar_gate_sessions.specs.Sessions.{IsAt}
 use Rattle.cedar_gate_sessions.specs.declared.session.SessionAt.{SessionAt}
 use Rattle.cedar_gate_sessions.proofs.Standing.{after_bind}
@@ -122,7 +123,7 @@ module _ {G : Type 0} (suits : G → Setup → Type 0) (x : Setup) (s : State) (
 
   -- after it
   pub stands_bound : (e : SessionAt G) → RootsAreKnown → BindingIsMore → (z : model.Schema) → z ≡ x.schema
-      → e.gate ≡ d.gate → e.start ≡ d.start → e.loaded.items ≡ d.loaded.items
+      → e.gate ≡ d.gate → e.start ≡ d.start → IsSameStore d.loaded e.loaded
       → is_open_by start (bound_in d.bound) n ≡ true → takes start n m → PutBy (bound_in e.bound)
       → ((t : State) → AreValuesOf t (bound_in e.bound) → request_of e.now ≡ request_at x.functions t start)
       → ((t : State) → AreValuesOf t (bound_in e.bound) → ContextFails x.functions t start.context → ⊥)

@@ -12,7 +12,7 @@ use Rattle.cedar_expr_model.specs.ValueParts.{Part, known, left}
 use Rattle.cedar_expr_model.proofs.Equality.{uid_eq-Decides}
 use Rattle.cedar_expr_names.specs.Views.{uid_of}
 use Rattle.cedar_expr_names.specs.declared.entity.EntityUID.{EntityUID}
-use Rattle.cedar_store_entities.specs.Refusals.{is_present}
+use Rattle.cedar_store_entities.specs.Refusals.{is_absent, is_present}
 use Rattle.cedar_store_entities.specs.Stores.{store_seen, store_made}
 use Rattle.cedar_store_entities.specs.Views.{Kept, entity_uid, entity_kept, entity_pair, kept_pair, bare_part, bare_entity}
 use Rattle.cedar_store_entities.specs.declared.entities.Entities.{Entities}
@@ -33,7 +33,7 @@ use Rattle.cedar_gate_model.specs.RunsAnswer.{Course, session_of, IsKnownStore}
 use Rattle.cedar_gate_model.specs.Session.{Setup, State, known_now}
 use Rattle.cedar_gate_sessions.specs.Entities.{RecordsAbsences}
 use Rattle.cedar_gate_sessions.specs.Loaded.{loaded_at}
-use Rattle.cedar_gate_sessions.specs.Sessions.{IsAt, AreLoaded, extent_at, stored_in, store_in, was_asked}
+use Rattle.cedar_gate_sessions.specs.Sessions.{IsAt, AreLoaded, extent_at, loaded_in, stored_in, store_in, was_asked}
 use Rattle.cedar_gate_sessions.specs.declared.session.SessionAt.{SessionAt}
 use Rattle.cedar_gate_sessions.proofs.Lookups.{lookup_seen}
 use Rattle.cedar_gate_sessions.proofs.Steady.{IsAlike}
@@ -91,11 +91,16 @@ none_present (e ∷ es) u h = go (uid_eq u (entity_uid e)) h (none_present es u)
     go true f later = absurd (cc)
     go false f later = later f
 
+-- of a whole store all is known
+all_is_known : (b : Bool) (t : Extent) → t ≡ whole → (if b then whole else t) ≡ whole
+all_is_known true t e = refl
+all_is_known false t e = e
+
 -- the store of the code is that of these entities
 module _ (z : Entities) (es : List Entity) (made : store_made z ≡ map kept_pair es) (u : Uid) where
   -- as all that there are
-  pub whole_is_made : store_seen z ≡ all_of (map entity_pair es) → store_of z u ≡ stored_in (λ v. true) es u
-  whole_is_made seen = λ i. if_uid u (found_kept (extent_for (seen i) u) (lookup (uid_eq u) (made i)))
+  pub whole_is_made : (store_seen z).extent ≡ whole → store_of z u ≡ stored_in (λ v. true) es u
+  whole_is_made extent = (λ i. if_uid u (found_kept (extent_for (store_seen z) u) (lookup (uid_eq u) (made i)))) ∙ ap (λ t. if_uid u (found_kept t (lookup (uid_eq u) (map kept_pair es)))) (all_is_known (is_absent (store_seen z) u) (store_seen z).extent extent)
 
   -- and where the others that were asked for are recorded as absent
   pub part_is_made : (asked : Uid → Bool) → RecordsAbsences asked (some_of (map entity_pair es) []) (store_seen z) → store_of z u ≡ stored_in asked es u
@@ -151,7 +156,7 @@ module _ (x : Setup) (s : State) (es : List Entity) (loaded : AreLoaded x s es) 
 -- the steady store is what is known of the store
 pub known_store : {G : Type 0} (suits : G → Setup → Type 0) (c : Course) (s : State) (d : SessionAt G) → IsAt suits (session_of c) s d → IsKnownStore c s (steady (session_of c).schema (store_in d))
 known_store suits c s d at = record {
-  known = λ u. steady_known (session_of c) s d.loaded.items at.loaded u (was_asked d) ((at.near).asked u);
-  well = λ u. steady_written (session_of c) s d.loaded.items at.loaded u (was_asked d) ((at.near).asked u);
+  known = λ u. steady_known (session_of c) s (loaded_in d) at.loaded u (was_asked d) ((at.near).asked u);
+  well = λ u. steady_written (session_of c) s (loaded_in d) at.loaded u (was_asked d) ((at.near).asked u);
   context = context_well (session_of c).functions.table (session_of c).start.context (subst (λ (q : PartialRequest). IsContextCanonical q.context) (at.setup).start (request_canonical d.start)) (at.setup).represented;
 }

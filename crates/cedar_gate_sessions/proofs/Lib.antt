@@ -8,6 +8,7 @@ pub mod Loadings
 pub mod Lookups
 pub mod Opened
 pub mod Parts
+pub mod Recorded
 pub mod Refusing
 pub mod Scopes
 pub mod Standing
@@ -16,7 +17,6 @@ pub mod Steady
 pub mod Stopping
 pub mod Stores
 pub mod Supplying
-pub mod Taking
 pub mod Texts
 mod AnswersLeft
 mod Deciding

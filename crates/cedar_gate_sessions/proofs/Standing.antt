@@ -3,7 +3,7 @@ use Rattle.std.proofs.Common.{◌≡◌, ◌∙◌, ◌++◌, Bool, true, false,
 use Rattle.std.specs.List.{list_all, list_any}
 use Rattle.std.specs.Map.{lookup}
 use Rattle.std.specs.Option.{option_or}
-use Rattle.std.specs.Prelude.{IfSome, if◌then◌else◌}
+use Rattle.std.specs.Prelude.{◌||◌, ◌∷◌, [], IfSome, is_some, if◌then◌else◌}
 use Rattle.std.specs.Str.{bytes_eq}
 use Rattle.std.specs.declared.alloc.Global.{Global}
 use Rattle.std.specs.declared.vec.Vec.{Vec}
@@ -28,6 +28,7 @@ use Rattle.cedar_evaluator_reads.specs.Scopes.{found_kept}
 use Rattle.cedar_evaluator_requests.specs.Views.{request_of}
 use Rattle.cedar_gate_openings.specs.Names.{bound_in}
 use Rattle.cedar_gate_wanted.specs.Kept.{IsKept}
+use Rattle.cedar_gate_wanted.specs.Rows.{found_at}
 use Rattle.cedar_gate_model.specs.Runs.{with_asked, supplied_by}
 use Rattle.cedar_gate_model.specs.Session.{Setup, State, with_bound, IsWantedList, BindRefusal, BindFault, known_now}
 use Rattle.cedar_typechecker_model.specs.Slice.{roots}
@@ -40,15 +41,22 @@ use Rattle.cedar_gate_wanted.proofs.Rounds.{supply_is_round, roots_bound}
 use Rattle.cedar_gate_wanted.proofs.Slicing.{next_round}
 use Rattle.cedar_evaluator_model.proofs.Represented.{entity_well}
 use Rattle.cedar_evaluator_reads.proofs.Canonical.{entity_canonical}
-use Rattle.cedar_gate_sessions.specs.Entities.{supplied_of, supplied_uids, supplied_entities, row_pair, mentions_pair}
+use Rattle.cedar_gate_sessions.specs.Entities.{AddsAnswers, IsSameStore, is_among, missing_uids, supplied_of, supplied_uids, supplied_entities, row_pair, mentions_pair}
 use Rattle.cedar_gate_sessions.specs.Loaded.{loaded_at, is_right}
-use Rattle.cedar_gate_sessions.specs.Sessions.{IsAt, IsSetup, gate_of, AreFromStore, AreLoaded, extent_at, stored_in}
+use Rattle.cedar_gate_sessions.specs.Sessions.{IsAt, IsSetup, gate_of, AreFromStore, AreLoaded, extent_at, loaded_in, stored_in, was_asked}
 use Rattle.cedar_gate_sessions.specs.declared.session.SessionAt.{SessionAt}
 use Rattle.cedar_gate_sessions.proofs.Loadings.{wanting_same, loaded_same}
 use Rattle.cedar_gate_sessions.proofs.Lookups.{lookup_both}
 use Rattle.cedar_gate_sessions.proofs.Opened.{opened_with}
 use Rattle.cedar_gate_sessions.proofs.Parts.{pairs_of, map_both, keys_same, rows_answer, kept_from}
+use Rattle.cedar_gate_sessions.proofs.Recorded.{asked_now, recorded_after, recorded_same}
 use Rattle.cedar_gate_sessions.proofs.Supplying.{entities_of, loaded_more, distinct_more, conform_more}
+use Rattle.cedar_store_entities.proofs.Fresh.{fresh_are_appended}
+
+-- the uids of rows
+row_uids : (rs : List (EntityUID × Vec EntityUID Global)) → map (λ (p : Uid × Vec EntityUID Global). p.0) (rows_of rs) ≡ keys_in rs
+row_uids [] = refl
+row_uids (r ∷ rs) = ap (λ us. uid_of r.0 ∷ us) (row_uids rs)
 
 -- the uids of the code are uids
 abbrev AreUids : Type 0
@@ -129,15 +137,16 @@ module _ (x : Setup) (s : State) (es : List Entity) (ps : List (EntityUID × Opt
 module _ {G : Type 0} (suits : G → Setup → Type 0) (x : Setup) (s : State) (d : SessionAt G) (at : IsAt suits x s d) where
   -- after a supply
   pub after_supply : (e : SessionAt G) (ps : List (EntityUID × Option Entity)) (rs : List (EntityUID × Vec EntityUID Global)) → AreUids
-      → e.gate ≡ d.gate → e.start ≡ d.start → e.now ≡ d.now → e.bound ≡ d.bound → e.loaded.items ≡ d.loaded.items ++ supplied_entities ps → level_of e.loading ≡ level_of d.loading
+      → e.gate ≡ d.gate → e.start ≡ d.start → e.now ≡ d.now → e.bound ≡ d.bound → AddsAnswers (supplied_entities ps) (missing_uids ps) d.loaded e.loaded → level_of e.loading ≡ level_of d.loading
       → map row_pair rs ≡ map mentions_pair ps → list_all (is_right x.schema) (supplied_of ps) ≡ true
       → IsFilled (rows_of rs) (rows_in d.loading) (rows_in e.loading) → AreKeys (wanted_in d.loading) (keys_in rs) → IsWanting x.schema e.loading
       → ((r : List Uid) → IsKept r (mentions_of d.loading) x.level (near_in d.loading) → IsKept r (mentions_of e.loading) x.level (near_in e.loading))
       → AreFromStore x ps → IsAt suits x (with_asked s (wanted_in d.loading)) e
-  after_supply e ps rs uids gate start now bound loaded level rows right filled keys wanting keeps from =
+  after_supply e ps rs uids gate start now bound added level rows right filled keys wanting keeps from =
       let same : keys_in rs ≡ supplied_uids ps = keys_same rs ps rows in
       let of_us : AreKeys (wanted_in d.loading) (supplied_uids ps) = subst (AreKeys (wanted_in d.loading)) same keys in
-      let once = more_is_distinct x s d.loaded.items ps (wanted_in d.loading) at.loaded from right of_us.each of_us.all (λ u k. none_loaded x s d.loading at.wanting at.near (at.loaded).acts u (of_us.each u k)) of_us in
+      let once = more_is_distinct x s (loaded_in d) ps (wanted_in d.loading) at.loaded from right of_us.each of_us.all (λ u k. none_loaded x s d.loading at.wanting at.near (at.loaded).acts u (of_us.each u k)) of_us in
+      let loaded : loaded_in e ≡ loaded_in d ++ supplied_entities ps = added.kept ∙ fresh_are_appended (loaded_in d) (supplied_entities ps) once in
       record {
         setup = subst (λ q. IsSetup suits x (gate_of e) q) (sym start) (subst (λ b. IsSetup suits x b.now d.start) (sym gate) at.setup);
         context = at.context;
@@ -148,16 +157,17 @@ module _ {G : Type 0} (suits : G → Setup → Type 0) (x : Setup) (s : State) (
         wanting = wanting;
         near = supply_is_round x s d.loading e.loading rs at.near filled keys
             (rows_answer x ps from.answered rs rows (λ u k. ((wanted_apart x s d.loading at.wanting at.near u (of_us.each u k)).0, uid_there uids ps u k))) keeps;
-        loaded = subst (AreLoaded x (with_asked s (wanted_in d.loading))) (sym loaded) (more_is_loaded x s d.loaded.items ps (wanted_in d.loading) at.loaded from right of_us.each of_us.all once);
+        loaded = subst (AreLoaded x (with_asked s (wanted_in d.loading))) (sym loaded) (more_is_loaded x s (loaded_in d) ps (wanted_in d.loading) at.loaded from right of_us.each of_us.all once);
+        recorded = recorded_after d e x.schema ps right added loaded (λ u. ap (λ us. was_asked d u || is_among us u) (sym same ∙ sym (row_uids rs)) ∙ asked_now u (rows_of rs) (rows_in d.loading) (rows_in e.loading) filled) at.recorded;
       }
 
   -- after a binding
   pub after_bind : (e : SessionAt G) (n : Text) (m : Made) (rs : List Uid) → IsBoundMore x s (with_bound s n m)
-      → e.gate ≡ d.gate → e.start ≡ d.start → ((k : Text) → bound_in e.bound k ≡ (if bytes_eq n k then Some m else bound_in d.bound k)) → request_of e.now ≡ request_at x.functions (with_bound s n m) x.start → e.loaded.items ≡ d.loaded.items
+      → e.gate ≡ d.gate → e.start ≡ d.start → ((k : Text) → bound_in e.bound k ≡ (if bytes_eq n k then Some m else bound_in d.bound k)) → request_of e.now ≡ request_at x.functions (with_bound s n m) x.start → IsSameStore d.loaded e.loaded
       → level_of e.loading ≡ level_of d.loading → (e.loading).rows ≡ (d.loading).rows → IsWanting x.schema e.loading
       → ((r : List Uid) → IsKept r (mentions_of d.loading) x.level (near_in d.loading) → IsKept (r ++ rs) (mentions_of e.loading) x.level (near_in e.loading))
       → rs ≡ roots (known_now x (with_bound s n m)) → ((f : BindRefusal) → BindFault x s n m f → ⊥) → IsWellMade x.functions.table m → IsAt suits x (with_bound s n m) e
-  after_bind e n m rs more gate start bound now loaded level rows wanting keeps listed ok well = record {
+  after_bind e n m rs more gate start bound now stays level rows wanting keeps listed ok well = let loaded : loaded_in e ≡ loaded_in d = stays.entities in record {
     setup = subst (λ q. IsSetup suits x (gate_of e) q) (sym start) (subst (λ b. IsSetup suits x b.now d.start) (sym gate) at.setup);
     context = at.context;
     opened = opened_with x s n m at.opened ok well;
@@ -167,6 +177,7 @@ module _ {G : Type 0} (suits : G → Setup → Type 0) (x : Setup) (s : State) (
     wanting = wanting;
     near = roots_bound x s (with_bound s n m) d.loading e.loading rs at.near more rows (λ u. ((λ k. subst (λ us. Contains us u) listed k), (λ k. subst (λ us. Contains us u) (sym listed) k))) keeps;
     loaded = record { acts = (at.loaded).acts; same = (at.loaded).same; each = λ u. ap (λ es. lookup (uid_eq u) (map entity_pair es)) loaded ∙ (at.loaded).each u; distinct = subst (λ es. are_distinct (map entity_pair es) ≡ true) (sym loaded) (at.loaded).distinct; written = λ u. subst (λ es. IsFoundMadeWell x.functions.table (stored_in (λ v. list_any (uid_eq v) s.asked) es u)) (sym loaded) ((at.loaded).written u); conform = (at.loaded).conform };
+    recorded = recorded_same d e stays (λ u. ap (λ m. is_some (found_at m u)) rows) at.recorded;
   }
     where
       lie : {P : Type 0} → true ≡ false → P
@@ -179,9 +190,9 @@ module _ {G : Type 0} (suits : G → Setup → Type 0) (x : Setup) (s : State) (
       value_with k false true e f = lie (sym ((bytes_eq-Decides n k).1 (sym ((bytes_eq-Decides k n).0 f))) ∙ e)
 
   -- where all says the same
-  pub at_same : (e : SessionAt G) → e.gate ≡ d.gate → e.start ≡ d.start → ((k : Text) → bound_in e.bound k ≡ bound_in d.bound k) → e.now ≡ d.now → e.loaded.items ≡ d.loaded.items → IsSameLoading d.loading e.loading
+  pub at_same : (e : SessionAt G) → e.gate ≡ d.gate → e.start ≡ d.start → ((k : Text) → bound_in e.bound k ≡ bound_in d.bound k) → e.now ≡ d.now → IsSameStore d.loaded e.loaded → IsSameLoading d.loading e.loading
       → IsAt suits x s e
-  at_same e gate start bound now loaded same = record {
+  at_same e gate start bound now stays same = record {
     setup = subst (λ q. IsSetup suits x (gate_of e) q) (sym start) (subst (λ b. IsSetup suits x b.now d.start) (sym gate) at.setup);
     context = at.context;
     opened = at.opened;
@@ -190,5 +201,6 @@ module _ {G : Type 0} (suits : G → Setup → Type 0) (x : Setup) (s : State) (
     level = same.level ∙ at.level;
     wanting = wanting_same d.loading e.loading same x.schema at.wanting;
     near = loaded_same d.loading e.loading same x s at.near;
-    loaded = subst (AreLoaded x s) (sym loaded) at.loaded;
+    loaded = subst (AreLoaded x s) (sym stays.entities) at.loaded;
+    recorded = recorded_same d e stays (λ u. ap is_some (same.rows u)) at.recorded;
   }

@@ -1,7 +1,9 @@
 -- A session that is opened stands at the start.
 use Rattle.std.proofs.Common.{◌≡◌, ◌∙◌, Bool, true, false, cond, List, [], ◌∷◌, map, Option, Some, None, option_map, if◌then◌else◌, refl, sym, ap, subst}
 use Rattle.std.specs.HashMap.{HashMap}
+use Rattle.std.specs.List.{list_any}
 use Rattle.std.specs.Map.{lookup}
+use Rattle.std.specs.Prelude.{is_some}
 use Rattle.std.specs.Rc.{rc_str_bytes}
 use Rattle.std.specs.Str.{bytes_eq}
 use Rattle.std.specs.declared.alloc.Global.{Global}
@@ -18,6 +20,7 @@ use Rattle.cedar_expr_values.specs.Extensions.{extension_of}
 use Rattle.cedar_expr_values.specs.Values.{made}
 use Rattle.cedar_expr_values.specs.declared.extension.ExtValue.{ExtValue}
 use Rattle.cedar_expr_values.specs.declared.value.Value.{Value}
+use Rattle.cedar_store_entities.specs.Stores.{store_seen, with_new}
 use Rattle.cedar_store_entities.specs.Views.{Kept, entity_uid, entity_kept, entity_pair, kept_pair, bare_part, bare_entity}
 use Rattle.cedar_store_entities.specs.declared.entity.Entity.{Entity}
 use Rattle.cedar_store_model.specs.Store.{partial}
@@ -37,11 +40,12 @@ use Rattle.cedar_gate_openings.specs.Requests.{request_at, AreValuesOf}
 use Rattle.cedar_gate_openings.specs.Roots.{known_roots}
 use Rattle.cedar_gate_wanted.specs.Wanting.{IsWanting, near_in, rows_in, mentions_of, level_of}
 use Rattle.cedar_gate_sessions.specs.Loaded.{HasActions}
-use Rattle.cedar_gate_sessions.specs.Sessions.{IsAt, IsSetup, gate_of, AreLoaded}
+use Rattle.cedar_gate_sessions.specs.Sessions.{IsAt, IsSetup, gate_of, AreLoaded, loaded_in}
 use Rattle.cedar_gate_sessions.specs.declared.session.SessionAt.{SessionAt}
 use Rattle.cedar_gate_sessions.proofs.Loadings.{loaded_at_start}
 use Rattle.cedar_gate_sessions.proofs.Lookups.{lookup_seen}
 use Rattle.cedar_gate_sessions.proofs.Opened.{opened_at_start}
+use Rattle.cedar_store_entities.proofs.Fresh.{fresh_are_appended}
 
 -- nothing is bound in an empty map
 pub none_bound : {S : Type 0} (m : HashMap (RcStr Global) (Value ExtValue) S) → m.entries ≡ [] → (n : Text) → bound_in m n ≡ None
@@ -92,13 +96,14 @@ module _ {G : Type 0} (suits : G → Setup → Type 0) where
   pub starts_at : RootsAreKnown → (e : SessionAt G) → IsMadeContext (request_of e.start).context → opens (request_of e.start) → ((n : Text) → bound_in e.bound n ≡ None)
       → ((x : Setup) → suits (gate_of e) x → (s : State) → AreValuesOf s (bound_in e.bound) → request_of e.now ≡ request_at x.functions s (request_of e.start))
       → ((x : Setup) → suits (gate_of e) x → level_of e.loading ≡ x.level) → (z : model.Schema) → ((x : Setup) → suits (gate_of e) x → z ≡ x.schema) → IsWanting z e.loading → ((u : Uid) → rows_in e.loading u ≡ None)
-      → IsKept (known_roots (request_of e.now)) (mentions_of e.loading) (level_of e.loading) (near_in e.loading) → HasActions z (map entity_pair e.loaded.items)
+      → IsKept (known_roots (request_of e.now)) (mentions_of e.loading) (level_of e.loading) (near_in e.loading) → (es : List Entity) → HasActions z (map entity_pair es) → loaded_in e ≡ with_new [] es → (store_seen e.loaded).extent ≡ partial → (store_seen e.loaded).absent ≡ []
       → (x : Setup) → IsSetup suits x (gate_of e) e.start → IsAt suits x at_start e
-  starts_at roots e made opened bound now level z schema_is wanting rows kept has x setup =
+  starts_at roots e made opened bound now level z schema_is wanting rows kept es has is extent absent x setup =
       let start = setup.start in
       let schema = schema_is x setup.gate in
       let here : request_of e.now ≡ request_at x.functions at_start x.start = now x setup.gate at_start bound ∙ ap (request_at x.functions at_start) start in
       let deep : level_of e.loading ≡ x.level = level x setup.gate in
+      let loaded : loaded_in e ≡ es = is ∙ fresh_are_appended [] es has.distinct in
       record {
         setup = setup;
         context = subst (λ r. IsMadeContext r.context) start made;
@@ -108,5 +113,10 @@ module _ {G : Type 0} (suits : G → Setup → Type 0) where
         level = deep;
         wanting = subst (λ y. IsWanting y e.loading) schema wanting;
         near = loaded_at_start x e.loading (known_roots (request_of e.now)) rows (roots x at_start (request_of e.now) here) (subst (λ n. IsKept (known_roots (request_of e.now)) (mentions_of e.loading) n (near_in e.loading)) deep kept);
-        loaded = actions_loaded x e.loaded.items (subst (λ y. HasActions y (map entity_pair e.loaded.items)) schema has);
+        loaded = subst (AreLoaded x at_start) (sym loaded) (actions_loaded x es (subst (λ y. HasActions y (map entity_pair es)) schema has));
+        recorded = record {
+          extent = extent;
+          entities = refl;
+          absent = λ u none. ap (λ us. list_any (uid_eq u) us) absent ∙ ap is_some (sym (rows u));
+        };
       }

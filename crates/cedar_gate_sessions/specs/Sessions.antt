@@ -1,6 +1,6 @@
 -- What a session of the code stands at.
 -- Rule: sessions; refusals of a session (docs/RULES.md).
-use Rattle.std.specs.Prelude.{◌≡◌, Bool, true, List, Contains, map, Option, Some, IfSome, is_some, if◌then◌else◌}
+use Rattle.std.specs.Prelude.{◌≡◌, Bool, true, List, [], Contains, map, Option, Some, IfSome, is_some, if◌then◌else◌}
 use Rattle.std.specs.List.{list_any}
 use Rattle.std.specs.Map.{lookup}
 use Rattle.cedar_expr_model.specs.Name.{Text}
@@ -9,10 +9,11 @@ use Rattle.cedar_expr_model.specs.Made.{Made}
 use Rattle.cedar_expr_model.specs.OfLaws.Represented.{IsRepresented}
 use Rattle.cedar_expr_model.specs.Value.{V}
 use Rattle.cedar_expr_names.specs.declared.entity.EntityUID.{EntityUID}
+use Rattle.cedar_store_entities.specs.Stores.{entities_kept, store_seen}
 use Rattle.cedar_store_entities.specs.Views.{entity_pair, entity_seen, kept_pair}
 use Rattle.cedar_store_entities.specs.declared.entity.Entity.{Entity}
 use Rattle.cedar_store_model.specs.Policy.{Policy}
-use Rattle.cedar_store_model.specs.Store.{Extent, are_distinct, if_uid, whole, partial}
+use Rattle.cedar_store_model.specs.Store.{Extent, are_distinct, if_uid, some_of, whole, partial}
 use Rattle.cedar_store_model.specs.World as world
 use Rattle.cedar_store_model.specs.World.{Found}
 use Rattle.cedar_schema_model.specs.Conforming.{EntityConforms, request_conforms}
@@ -31,7 +32,7 @@ use Rattle.cedar_gate_wanted.specs.Laws.{IsLoadedAt}
 use Rattle.cedar_gate_wanted.specs.Wanting.{IsWanting, IsSameLoading, level_of, rows_in, wanted_in}
 use Rattle.cedar_gate_openings.specs.Requests.{request_at, AreValuesOf}
 use Rattle.cedar_gate_sessions.specs.Requests.{known_request}
-use Rattle.cedar_gate_sessions.specs.Entities.{supplied_of, supplied_uids}
+use Rattle.cedar_gate_sessions.specs.Entities.{IsSameStore, RecordsAbsences, supplied_of, supplied_uids}
 use Rattle.cedar_gate_sessions.specs.Loaded.{AreActions, loaded_at}
 use Rattle.cedar_gate_sessions.specs.declared.session.SessionAt.{SessionAt}
 
@@ -64,12 +65,19 @@ extent_at asked = if asked then whole else partial
 abbrev pub stored_in : (Uid → Bool) → List Entity → Uid → Found Made
 stored_in asked es u = if_uid u (found_kept (extent_at (asked u)) (lookup (uid_eq u) (map kept_pair es)))
 
--- whether a uid was asked for, and the store of what is loaded
+-- whether a uid was asked for, the entities that are loaded, and the store of them
 abbrev pub was_asked : {G : Type 0} → SessionAt G → Uid → Bool
 was_asked e u = is_some (rows_in e.loading u)
 
+abbrev pub loaded_in : {G : Type 0} → SessionAt G → List Entity
+loaded_in e = entities_kept e.loaded
+
 abbrev pub store_in : {G : Type 0} → SessionAt G → Uid → Found Made
-store_in e = stored_in (was_asked e) e.loaded.items
+store_in e = stored_in (was_asked e) (loaded_in e)
+
+-- They stand in some of a store, which records that there is none of each other uid that was asked for.
+abbrev pub IsRecorded : {G : Type 0} → SessionAt G → Type 0
+IsRecorded e = RecordsAbsences (was_asked e) (some_of (map entity_pair (loaded_in e)) []) (store_seen e.loaded)
 
 -- These entities are loaded: the declared actions and what the store answered, each once, with values as they are written; what was
 -- answered conforms.
@@ -91,7 +99,8 @@ pub record IsAt {G : Type 0} (suits : G → Setup → Type 0) (x : Setup) (s : S
   pub level : level_of e.loading ≡ x.level
   pub wanting : IsWanting x.schema e.loading
   pub near : IsLoadedAt x s e.loading
-  pub loaded : AreLoaded x s e.loaded.items
+  pub loaded : AreLoaded x s (loaded_in e)
+  pub recorded : IsRecorded e
 
 -- at each state that the session is at
 abbrev pub AtEachState : {G : Type 0} → (G → Setup → Type 0) → SessionAt G → (Setup → State → Type 0) → Type 0
@@ -130,4 +139,4 @@ pub record IsSameSession {G : Type 0} (d e : SessionAt G) : Type 0 where
   pub now : e.now ≡ d.now
   pub bound : (n : Text) → bound_by e n ≡ bound_by d n
   pub loading : IsSameLoading d.loading e.loading
-  pub loaded : e.loaded.items ≡ d.loaded.items
+  pub loaded : IsSameStore d.loaded e.loaded

@@ -19,7 +19,7 @@ ghost use Rattle.cedar_gate_sessions.specs.Refused.{IsRefusedBinding, HasAnswer,
 ghost use Rattle.cedar_gate_sessions.specs.Sessions.{IsSetup, IsAt, IsSameSession, IsAfterSupply, IsAfterBinding, AtEachState, EvaluatesWith, gate_of, wanted_of, start_of, bound_by};
 
 use crate::bound::{add_known_roots, put_value, request_bound, take_value};
-use crate::entities::{known_store_of, store_of};
+use crate::entities::{first_store, whole_store};
 use crate::faults::{AnswerFault, SupplyFault};
 use crate::gates::GateCalls;
 use crate::laws::{accepted_policies_are_fit, answers_are_the_meaning, decisions_may_be_given};
@@ -33,8 +33,8 @@ use cedar_gate_openings::{
     BindFault, OpenFault, V, check_names, check_value, context_is_made, has_open, is_open,
 };
 use cedar_gate_wanted::Loading;
-use cedar_store_entities::Entity;
 use cedar_store_entities::laws::uids_are_uids;
+use cedar_store_entities::{Entities, Entity};
 use std::alloc::{AllocError, Global};
 use std::collections::HashMap;
 use std::fmt;
@@ -49,7 +49,7 @@ pub struct SessionAt<'g, G> {
     now: Request,
     bound: HashMap<RcStr, V>,
     loading: Loading,
-    loaded: Vec<Entity>,
+    loaded: Entities,
 }
 
 impl<G> Debug for SessionAt<'_, G> {
@@ -86,7 +86,7 @@ impl<'g, G: GateCalls> SessionAt<'g, G> {
         let (now, _) = gate.request_now(alloc, &request, &bound)?;
         let mut loading = Loading::new(alloc, gate.level());
         add_known_roots(alloc, gate, &now, &mut loading)?;
-        let loaded = gate.actions(alloc)?;
+        let loaded = first_store(alloc, gate.actions(alloc)?)?;
         Ok(SessionAt {
             gate,
             start: request,
@@ -128,14 +128,7 @@ impl<'g, G: GateCalls> SessionAt<'g, G> {
         }
         uids_are_uids();
         let parts = parted(alloc, supplied)?;
-        match take_in(
-            alloc,
-            self.gate,
-            &mut self.loading,
-            &mut self.loaded,
-            parts.0,
-            parts.1,
-        ) {
+        match take_in(alloc, self.gate, &mut self.loading, &mut self.loaded, parts) {
             Ok(()) => Ok(()),
             Err(fault) => Err(fault),
         }
@@ -186,9 +179,8 @@ impl<'g, G: GateCalls> SessionAt<'g, G> {
     fn verdicts(&self, alloc: Global) -> Result<Vec<Verdict>, AllocError>
         ensures { IfOk result (λ vs. AtEachState G.suits self.entry.now (AreVerdictsAt G.accepted self.entry.now vs.items)) }
     {
-        let entities = known_store_of(alloc, self.loaded.as_slice(), &self.loading)?;
         self.gate
-            .verdicts(alloc, self.now.clone()?, &entities, &self.bound)
+            .verdicts(alloc, self.now.clone()?, &self.loaded, &self.bound)
     }
 
     /// The decision of evaluating the policies in part over what is known by now, if that decides. One that is given is that of every
@@ -255,7 +247,7 @@ impl<'g, G: GateCalls> SessionAt<'g, G> {
         uids_are_uids();
         accepted_policies_are_fit();
         answers_are_the_meaning();
-        let entities = store_of(alloc, self.loaded.as_slice())?;
+        let entities = whole_store(&self.loaded)?;
         self.gate
             .respond(alloc, self.now.clone()?, &entities, &self.bound)
     }

@@ -12,7 +12,7 @@ pub mod annotation {
 
 /// Stores of entities, and what they answer for a uid.
 pub mod entities {
-    pub use cedar_store_entities::{Dereference, Entities};
+    pub use cedar_store_entities::{Dereference, Entities, Mark};
 
     /// Why entities make no store, and why an absence isn't recorded.
     pub mod err {
@@ -55,7 +55,7 @@ pub mod validation {
 
 pub use annotation::{Annotation, Annotations};
 pub use entities::err::{AbsenceError, EntitiesError};
-pub use entities::{Dereference, Entities};
+pub use entities::{Dereference, Entities, Mark};
 pub use entity::Entity;
 pub use policy::{
     ActionConstraint, Effect, EntityReference, LinkingError, Policy, PolicyID, PrincipalConstraint,

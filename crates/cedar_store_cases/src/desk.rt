@@ -4,7 +4,7 @@ use cedar_expr_names::EntityUID;
 use cedar_expr_partial::PartialValue;
 use cedar_expr_trees::Expr;
 use cedar_expr_values::{ExtValue, Value};
-use cedar_store_entities::{Entities, Entity};
+use cedar_store_entities::{Entities, Entity, Mark};
 use cedar_store_policies::{
     ActionConstraint, Annotations, Effect, Policy, PolicySet, PrincipalOrResourceConstraint,
     SlotEnv, StaticPolicy, Template,
@@ -77,7 +77,7 @@ impl Parts {
     }
 }
 
-/// Entities, a store of them, and what they are made of.
+/// Entities, a store of them with a mark of it, and what they are made of.
 pub struct Known {
     pub alloc: Global,
     pub attrs: Vec<(RcStr, Part)>,
@@ -86,6 +86,7 @@ pub struct Known {
     pub parents: Vec<EntityUID>,
     pub entities: Vec<Entity>,
     pub store: Entities,
+    pub mark: Mark,
 }
 
 impl Drop for Known {
@@ -98,12 +99,15 @@ impl Drop for Known {
             parents: _,
             entities: _,
             store: _,
+            mark: _,
         } = self;
     }
 }
 
 impl Known {
     pub fn new(alloc: Global) -> Known {
+        let store = Entities::new(alloc);
+        let mark = store.mark();
         Known {
             alloc,
             attrs: Vec::new(alloc),
@@ -111,7 +115,8 @@ impl Known {
             above: Vec::new(alloc),
             parents: Vec::new(alloc),
             entities: Vec::new(alloc),
-            store: Entities::new(alloc),
+            store,
+            mark,
         }
     }
 }

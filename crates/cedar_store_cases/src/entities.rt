@@ -7,12 +7,12 @@ use cedar_expr_trees::{Expr, ExprKind};
 use cedar_expr_values::ValueKind;
 use cedar_store_entities::{Dereference, Entities, Entity};
 use cedar_store_parts::RequestType;
-use cedar_test_exprs::{entity_type, expr, kept, refused, say, show, uid, value, word};
+use cedar_test_exprs::{entity_type, expr, kept, refused, say, show, tell, uid, value, word};
 use std::alloc::{AllocError, Global};
 use std::rc::RcStr;
 
 // Does the command: what an entity is made of, as `attr age 40`, `tag spoon $t`, `above Team::all`, `parent Team::red`; `entity User::a`,
-// `copy`, `shown`; or one on stores.
+// `bare User::a`, `copy`, `shown`, `below Team::all`; or one on stores.
 pub fn done(known: &mut Known, command: (&str, &str), said: &mut String) -> Made<()> {
     let (verb, rest) = command;
     let alloc = known.alloc;
@@ -22,8 +22,10 @@ pub fn done(known: &mut Known, command: (&str, &str), said: &mut String) -> Made
         "above" => lay(&mut known.above, uid(alloc, rest)),
         "parent" => lay(&mut known.parents, uid(alloc, rest)),
         "entity" => put_entity(known, rest, said),
+        "bare" => lay(&mut known.entities, bare(alloc, rest)),
         "copy" => put_copy(known),
         "shown" => say_entity(alloc, said, top(known.entities.as_slice())?),
+        "below" => below(known, rest, said),
         _ => stored(known, command, said),
     }
 }
@@ -31,6 +33,17 @@ pub fn done(known: &mut Known, command: (&str, &str), said: &mut String) -> Made
 fn put_entity(known: &mut Known, text: &str, said: &mut String) -> Made<()> {
     let made = entity(known, text);
     put(known.alloc, said, &mut known.entities, made)
+}
+
+// The entity of a uid alone.
+fn bare(alloc: Global, text: &str) -> Made<Entity> {
+    Ok(Entity::with_uid(alloc, uid(alloc, text)?))
+}
+
+// Whether the uid is a recorded ancestor of the last entity.
+fn below(known: &Known, text: &str, said: &mut String) -> Made<()> {
+    let uid = uid(known.alloc, text)?;
+    tell(said, top(known.entities.as_slice())?.is_descendant_of(&uid))
 }
 
 // A copy of the last entity.
@@ -51,6 +64,19 @@ fn stored(known: &mut Known, command: (&str, &str), said: &mut String) -> Made<(
         "absent" => absent(known, rest, said),
         "find" => find(known, rest, said),
         "request_type" => request_type(known.alloc, rest, said),
+        _ => grown(known, verb, said),
+    }
+}
+
+// Does the command: `more`, `concrete`, `mark`, `reset`, `copy_store`, `uids`.
+fn grown(known: &mut Known, verb: &str, said: &mut String) -> Made<()> {
+    match verb {
+        "more" => more(known, said),
+        "concrete" => concrete(known),
+        "mark" => mark(known),
+        "reset" => reset(known),
+        "copy_store" => copy_store(known),
+        "uids" => uids(known, said),
         _ => Err(AllocError),
     }
 }
@@ -106,6 +132,46 @@ fn partial(known: &mut Known) -> Made<()> {
     let mut store = Entities::new(known.alloc);
     std::mem::swap(&mut store, &mut known.store);
     known.store = store.partial();
+    Ok(())
+}
+
+// Makes the store a whole one.
+fn concrete(known: &mut Known) -> Made<()> {
+    let mut store = Entities::new(known.alloc);
+    std::mem::swap(&mut store, &mut known.store);
+    known.store = store.concrete();
+    Ok(())
+}
+
+// Adds the entities at hand to the store.
+fn more(known: &mut Known, said: &mut String) -> Made<()> {
+    let entities = all(known.alloc, &mut known.entities);
+    let added = known.store.add_new(entities);
+    refused(known.alloc, said, added)
+}
+
+// Marks the store, and takes it back to the mark.
+fn mark(known: &mut Known) -> Made<()> {
+    known.mark = known.store.mark();
+    Ok(())
+}
+
+fn reset(known: &mut Known) -> Made<()> {
+    known.store.reset(known.mark);
+    Ok(())
+}
+
+// A copy in the place of the store.
+fn copy_store(known: &mut Known) -> Made<()> {
+    known.store = known.store.clone()?;
+    Ok(())
+}
+
+// The uids of the entities of the store.
+fn uids(known: &Known, said: &mut String) -> Made<()> {
+    for entity in known.store.iter() {
+        show(known.alloc, said, entity.uid())?;
+    }
     Ok(())
 }
 

@@ -1,19 +1,14 @@
 -- Recorded ancestors, each with whether it is a parent.
-use Rattle.std.proofs.Common.{◌≡◌, Bool, true, false, cond, ◌||◌, List, [], ◌∷◌, ◌++◌, map, Option, Some, None, refl, sym, ap, ◌∙◌}
+use Rattle.std.proofs.Common.{◌≡◌, ℕ, suc, Bool, true, false, cond, ◌||◌, List, [], ◌∷◌, ◌++◌, map, length, set, Option, Some, None, option_map, refl, sym, ap, ◌∙◌, subst, arith}
 use Rattle.std.proofs.lemmas.List.{map-append}
-use Rattle.std.specs.Borrow.{Bor}
-use Rattle.std.specs.List.{list_any}
+use Rattle.std.proofs.lemmas.Option.{same_Some}
+use Rattle.std.specs.List.{list_any, zip, slice_get, AllZip}
 use Rattle.std.specs.Map.{lookup}
-use Rattle.std.specs.Option.{option_copied, option_map_or}
-use Rattle.indexmap.specs.IndexMap.{insert_entry}
-use Rattle.cedar_expr_names.specs.Views.{uid_of}
-use Rattle.cedar_expr_names.specs.declared.entity.EntityUID.{EntityUID}
-use Rattle.cedar_expr_names.proofs.Equality.{uids_eq_is}
+use Rattle.std.specs.Option.{option_and_then}
 use Rattle.cedar_expr_model.specs.Uid.{Uid, uid_eq}
+use Rattle.cedar_store_entities.specs.Places.{place_in}
 use Rattle.cedar_store_entities.specs.Recorded.{Kin, uids_of_kin, recorded, all_recorded, with_parent, with_indirect, with_parents, with_indirects}
-use Rattle.cedar_store_entities.specs.StoreParts.{keys_in}
-use Rattle.cedar_store_entities.specs.Views.{kin_in}
-use Rattle.cedar_store_entities.proofs.Uids.{same_uid}
+use Rattle.cedar_store_entities.proofs.Placed.{neither, step}
 
 -- one more as a parent is one more that is recorded
 front : (k : Uid) (us vs : List Uid) (t : Bool) → k ∷ cond t us vs ≡ cond t (k ∷ us) (k ∷ vs)
@@ -58,39 +53,58 @@ parent_more old new u h = ap uids_of_kin h ∙ parent_recorded old u
 pub indirect_more : (old new : Kin) (u : Uid) → new ≡ with_indirect old u → uids_of_kin new ≡ recorded (uids_of_kin old) u
 indirect_more old new u h = ap uids_of_kin h ∙ indirect_recorded old u
 
--- the keys of a map are the recorded uids
-pub kin_uids : (es : List (EntityUID × Bool)) → uids_of_kin (kin_in es) ≡ keys_in es
-kin_uids [] = refl
-kin_uids (e ∷ es) = ap (λ us. uid_of e.0 ∷ us) (kin_uids es)
+-- one more that isn't recorded
+pub parent_fresh : (ks : Kin) (u : Uid) → list_any (uid_eq u) (uids_of_kin ks) ≡ false → ks ++ (u, true) ∷ [] ≡ with_parent ks u
+parent_fresh [] u f = refl
+parent_fresh (k ∷ ks) u f =
+    let g = neither (uid_eq u k.0) (list_any (uid_eq u) (uids_of_kin ks)) f in
+    ap (λ js. k ∷ js) (parent_fresh ks u g.1) ∙ ap (λ b. cond b ((k.0, true) ∷ ks) (k ∷ with_parent ks u)) (sym g.0)
 
-pub kin_keys : (es : List (EntityUID × Bool)) → map uid_of (map (λ e. e.0) es) ≡ uids_of_kin (kin_in es)
-kin_keys [] = refl
-kin_keys (e ∷ es) = ap (λ us. uid_of e.0 ∷ us) (kin_keys es)
+pub indirect_fresh : (ks : Kin) (u : Uid) → list_any (uid_eq u) (uids_of_kin ks) ≡ false → ks ++ (u, false) ∷ [] ≡ with_indirect ks u
+indirect_fresh ks u f = ap (λ b. cond b ks (ks ++ (u, false) ∷ [])) (sym f)
 
--- an insertion records
-either : (s t : Bool) → s ≡ t → (e : EntityUID × Bool) (es more : List (EntityUID × Bool)) (ks : Kin) → kin_in more ≡ ks
-    → kin_in (cond s ((e.0, true) ∷ es) (e ∷ more)) ≡ cond t ((uid_of e.0, true) ∷ kin_in es) ((uid_of e.0, e.1) ∷ ks)
-either true t h e es more ks k = ap (λ b. cond b ((uid_of e.0, true) ∷ kin_in es) ((uid_of e.0, e.1) ∷ ks)) h
-either false t h e es more ks k = ap (λ js. (uid_of e.0, e.1) ∷ js) k ∙ ap (λ b. cond b ((uid_of e.0, true) ∷ kin_in es) ((uid_of e.0, e.1) ∷ ks)) h
+pub indirect_known : (ks : Kin) (u : Uid) → list_any (uid_eq u) (uids_of_kin ks) ≡ true → ks ≡ with_indirect ks u
+indirect_known ks u f = ap (λ b. cond b ks (ks ++ (u, false) ∷ [])) (sym f)
 
-pub parent_put : (u : EntityUID) (es : List (EntityUID × Bool)) → kin_in (insert_entry same_uid es u true) ≡ with_parent (kin_in es) (uid_of u)
-parent_put u [] = refl
-parent_put u (e ∷ es) = either (same_uid u e.0) (uid_eq (uid_of u) (uid_of e.0)) (uids_eq_is u e.0) e es (insert_entry same_uid es u true) (with_parent (kin_in es) (uid_of u)) (parent_put u es)
+-- uids and whether they are parents, place by place
+no_length : (n : ℕ) → 0 ≡ suc n → ⊥
+no_length n h = omega arith
 
-known : (u : EntityUID) (es : List (EntityUID × Bool)) (b : Bool) → list_any (uid_eq (uid_of u)) (keys_in es) ≡ b → cond b (kin_in es) (kin_in es ++ (uid_of u, false) ∷ []) ≡ with_indirect (kin_in es) (uid_of u)
-known u es b h = ap (λ t. cond t (kin_in es) (kin_in es ++ (uid_of u, false) ∷ [])) (sym (ap (list_any (uid_eq (uid_of u))) (kin_uids es) ∙ h))
+shorter : (m n : ℕ) → suc m ≡ suc n → m ≡ n
+shorter m n h = omega arith
 
-pub indirect_kept : (u : EntityUID) (es : List (EntityUID × Bool)) → list_any (uid_eq (uid_of u)) (keys_in es) ≡ true → kin_in es ≡ with_indirect (kin_in es) (uid_of u)
-indirect_kept u es h = known u es true h
+pub uids_zipped : (us : List Uid) (bs : List Bool) → length bs ≡ length us → uids_of_kin (zip us bs) ≡ us
+uids_zipped [] bs l = refl
+uids_zipped (u ∷ us) [] l = absurd (no_length (length us) l)
+uids_zipped (u ∷ us) (b ∷ bs) l = ap (λ vs. u ∷ vs) (uids_zipped us bs (shorter (length bs) (length us) l))
 
-pub indirect_put : (u : EntityUID) (es more : List (EntityUID × Bool)) → list_any (uid_eq (uid_of u)) (keys_in es) ≡ false → more ≡ es ++ (u, false) ∷ [] → kin_in more ≡ with_indirect (kin_in es) (uid_of u)
-indirect_put u es more h m = ap kin_in m ∙ map-append (λ (e : EntityUID × Bool). (uid_of e.0, e.1)) es ((u, false) ∷ []) ∙ known u es false h
+pub zip_more : (us : List Uid) (bs : List Bool) (u : Uid) (b : Bool) → length bs ≡ length us → zip (us ++ u ∷ []) (bs ++ b ∷ []) ≡ zip us bs ++ (u, b) ∷ []
+zip_more [] [] u b l = refl
+zip_more [] (c ∷ bs) u b l = absurd (no_length (length bs) (sym l))
+zip_more (v ∷ us) [] u b l = absurd (no_length (length us) l)
+zip_more (v ∷ us) (c ∷ bs) u b l = ap (λ ks. (v, c) ∷ ks) (zip_more us bs u b (shorter (length bs) (length us) l))
 
--- what is found under a uid
-kin_found : (u : EntityUID) (es : List (EntityUID × Bool)) → lookup (same_uid u) es ≡ lookup (uid_eq (uid_of u)) (kin_in es)
-kin_found u [] = refl
-kin_found u (e ∷ es) = λ i. cond (uids_eq_is u e.0 i) (Some e.1) (kin_found u es i)
+-- what is recorded of a uid
+pub zip_looked : (us : List Uid) (bs : List Bool) (u : Uid) → length bs ≡ length us → lookup (uid_eq u) (zip us bs) ≡ option_and_then (slice_get bs) (place_in us u)
+zip_looked [] bs u l = refl
+zip_looked (v ∷ us) [] u l = absurd (no_length (length us) l)
+zip_looked (v ∷ us) (b ∷ bs) u l = step (uid_eq u v) b bs (place_in us u) (lookup (uid_eq u) (zip us bs)) (zip_looked us bs u (shorter (length bs) (length us) l))
 
-pub told : (f : Bool → Bool) (u : EntityUID) (es : List (EntityUID × Bool)) (r s : Option (Bor Bool)) → option_copied r ≡ lookup (same_uid u) es → r ≡ s
-    → option_map_or f (option_copied s) false ≡ option_map_or f (lookup (uid_eq (uid_of u)) (kin_in es)) false
-told f u es r s h k = ap (λ o. option_map_or f o false) (sym (ap option_copied k) ∙ h ∙ kin_found u es)
+-- what is recorded becomes a parent in its place
+pub parent_set : (us : List Uid) (bs : List Bool) (u : Uid) (n : ℕ) → length bs ≡ length us → place_in us u ≡ Some n → zip us (set bs n true) ≡ with_parent (zip us bs) u
+parent_set [] bs u n l p = cc
+parent_set (v ∷ us) [] u n l p = absurd (no_length (length us) l)
+parent_set (v ∷ us) (b ∷ bs) u n l p = go (uid_eq u v) (place_in us u) p (λ m q. parent_set us bs u m (shorter (length bs) (length us) l) q)
+  where
+    go : (t : Bool) (o : Option ℕ) → cond t (Some 0) (option_map suc o) ≡ Some n → ((m : ℕ) → o ≡ Some m → zip us (set bs m true) ≡ with_parent (zip us bs) u)
+        → zip (v ∷ us) (set (b ∷ bs) n true) ≡ cond t ((v, true) ∷ zip us bs) ((v, b) ∷ with_parent (zip us bs) u)
+    go true o q f = subst (λ k. zip (v ∷ us) (set (b ∷ bs) k true) ≡ (v, true) ∷ zip us bs) (same_Some 0 n q) refl
+    go false None q f = cc
+    go false (Some m) q f = subst (λ k. zip (v ∷ us) (set (b ∷ bs) k true) ≡ (v, b) ∷ with_parent (zip us bs) u) (same_Some (suc m) n q) (ap (λ ks. (v, b) ∷ ks) (f m refl))
+
+-- copies of them
+pub bools_copied : (bs cs : List Bool) → AllZip (λ b c. c ≡ b) bs cs → cs ≡ bs
+bools_copied [] [] h = refl
+bools_copied [] (c ∷ cs) h = absurd h
+bools_copied (b ∷ bs) [] h = absurd h
+bools_copied (b ∷ bs) (c ∷ cs) h = λ i. h.0 i ∷ bools_copied bs cs h.1 i

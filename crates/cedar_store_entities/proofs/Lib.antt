@@ -1,8 +1,11 @@
 mod Uids
+mod Placed
+mod Led
 mod Parted
-mod Keyed
 mod Kin
+mod Stored
 mod Gathered
+pub mod Fresh
 mod Mapped
 mod Copies
 mod Ranged

@@ -17,10 +17,12 @@ use Rattle.cedar_store_model.specs.Store.{Extent, whole, partial, all_of, some_o
 use Rattle.cedar_store_model.specs.StoreLaws.{KeepsRequest, NoneStands}
 use Rattle.cedar_store_model.proofs.Stores.{found_stands, stands_found, lacked, whole_extends_partial}
 use Rattle.cedar_store_entities.specs.StoreLaws.{StoresAreMaps, PartialIsLess, AreFinishedIn, PartsAreFinished, UnfinishedIsLess}
-use Rattle.cedar_store_entities.specs.Stores.{store_seen}
+use Rattle.cedar_store_entities.specs.Stores.{entities_kept, store_seen}
+use Rattle.cedar_store_entities.specs.Uids.{uids_in}
+use Rattle.cedar_store_entities.proofs.Gathered.{apart_entities}
 
 pub maps : StoresAreMaps
-maps s = s.distinct
+maps s = apart_entities (entities_kept s) (uids_in s.uids) s.named s.uids.apart
 
 pub less : PartialIsLess
 less table m n q r s all x hn hr part none distinct =

@@ -1,3 +1,5 @@
+pub mod Places
+pub mod Uids
 pub mod Recorded
 pub mod Views
 pub mod Refusals

@@ -1,11 +1,11 @@
 -- What code entities are as the model's: with the calls that make their extension values, and without; and their places.
 -- Rule: the store (docs/RULES.md).
-use Rattle.std.specs.Prelude.{List, map, Bool, Option}
+use Rattle.std.specs.Prelude.{List, map, Option}
+use Rattle.std.specs.List.{zip}
 use Rattle.std.specs.Rc.{rc_str_bytes}
 use Rattle.std.specs.declared.alloc.Global.{Global}
 use Rattle.std.specs.declared.rc.RcStr.{RcStr}
 use Rattle.cedar_expr_names.specs.Views.{uid_of}
-use Rattle.cedar_expr_names.specs.declared.entity.EntityUID.{EntityUID}
 use Rattle.cedar_expr_names.specs.declared.loc.Loc.{Loc}
 use Rattle.cedar_expr_model.specs.Name.{Text}
 use Rattle.cedar_expr_model.specs.Uid.{Uid}
@@ -20,6 +20,8 @@ use Rattle.cedar_expr_partial.specs.Parts.{part_of, part_place}
 use Rattle.cedar_expr_partial.specs.declared.partial_value.PartialValue.{PartialValue}
 use Rattle.cedar_store_model.specs.World as model
 use Rattle.cedar_store_entities.specs.Recorded.{Kin, uids_of_kin}
+use Rattle.cedar_store_entities.specs.Uids.{uids_in}
+use Rattle.cedar_store_entities.specs.declared.ancestors.Ancestors.{Ancestors}
 use Rattle.cedar_store_entities.specs.declared.entity.Entity.{Entity}
 
 -- an attribute or a tag, as it was made
@@ -48,11 +50,11 @@ abbrev pub entity_uid : Entity → Uid
 entity_uid e = uid_of e.uid
 
 -- the recorded ancestors, each with whether it is a parent
-abbrev pub kin_in : List (EntityUID × Bool) → Kin
-kin_in es = map (λ e. (uid_of e.0, e.1)) es
+abbrev pub kin_in : Ancestors → Kin
+kin_in a = zip (uids_in a.uids) a.are_parents.items
 
 abbrev pub kin_seen : Entity → Kin
-kin_seen e = kin_in e.ancestors.entries
+kin_seen e = kin_in e.ancestors
 
 -- the entity, its values as they were made
 abbrev pub entity_seen : Entity → model.Entity Made

@@ -4,6 +4,7 @@ ghost use Rattle.std.specs.Prelude.{◌≡◌, ◌++◌, [], map, length, option
 ghost use Rattle.std.specs.List.{list_any};
 ghost use Rattle.std.specs.Map.{lookup};
 ghost use Rattle.std.specs.Rc.{rc_str_bytes};
+ghost use Rattle.std.specs.Slice.Iter.{iter_rest};
 ghost use Rattle.std.specs.Str.{bytes_eq};
 ghost use Rattle.cedar_expr_names.specs.Views.{uid_of};
 ghost use Rattle.cedar_expr_model.specs.Uid.{uid_eq};
@@ -12,17 +13,16 @@ ghost use Rattle.cedar_expr_partial.specs.Parts.{part_place};
 ghost use Rattle.cedar_store_entities.specs.Views.{part_seen, part_pair, value_pair, placed_part, placed_value, names_in, entity_uid, entity_seen, entity_kept, kin_seen, attribute_places, tag_places};
 ghost use Rattle.cedar_store_entities.specs.Recorded.{recorded, all_recorded, with_parent, with_indirect, with_parents, with_indirects, is_parent, is_indirect};
 
-use crate::entries::has_key;
-use crate::recorded::{record_indirect, record_indirects, record_parent, record_parents};
+use crate::ancestors::Ancestors;
 use cedar_expr_names::EntityUID;
 use cedar_expr_partial::PartialValue;
 use cedar_expr_values::fields::field_map;
 use cedar_expr_values::{ExtValue, Value};
-use indexmap::{IndexMap, map};
 use std::alloc::{AllocError, Global};
 use std::collections::BTreeMap;
 use std::collections::btree_map::{Iter, Keys};
 use std::rc::RcStr;
+use std::slice;
 
 /// An entity: its uid, its attributes and tags by name, and its recorded ancestors, each once, of which some are its parents.
 /// Nothing is said of the ancestors of its ancestors.
@@ -30,7 +30,7 @@ pub struct Entity {
     uid: EntityUID,
     attrs: BTreeMap<RcStr, PartialValue<ExtValue>>,
     tags: BTreeMap<RcStr, PartialValue<ExtValue>>,
-    ancestors: IndexMap<EntityUID, bool>,
+    ancestors: Ancestors,
 }
 
 // A drop of its own is one step to the proof of a function that may drop an entity; a derived one is a step for each field.
@@ -101,9 +101,9 @@ impl Entity {
         ensures ancestors { IfOk result (λ e. (entity_seen e).ancestors ≡ all_recorded (all_recorded [] (map uid_of indirect_ancestors.items)) (map uid_of parents.items)) }
         ensures kin { IfOk result (λ e. kin_seen e ≡ with_parents (with_indirects [] (map uid_of indirect_ancestors.items)) (map uid_of parents.items)) }
     {
-        let mut ancestors = IndexMap::new(alloc);
-        record_indirects(&mut ancestors, indirect_ancestors)?;
-        record_parents(&mut ancestors, parents)?;
+        let mut ancestors = Ancestors::new(alloc);
+        ancestors.add_indirects(indirect_ancestors)?;
+        ancestors.add_parents(parents)?;
         let attrs = field_map(alloc, attrs)?;
         let tags = field_map(alloc, tags)?;
         Ok(Entity {
@@ -126,7 +126,7 @@ impl Entity {
             uid,
             attrs: BTreeMap::new(alloc),
             tags: BTreeMap::new(alloc),
-            ancestors: IndexMap::new(alloc),
+            ancestors: Ancestors::new(alloc),
         }
     }
 
@@ -198,25 +198,25 @@ impl Entity {
     }
 
     /// Goes over the recorded ancestors, in the order in which they were recorded.
-    pub fn ancestors(&self) -> map::Keys<'_, EntityUID, bool>
-        ensures { map uid_of result ≡ (entity_seen self.now).ancestors }
+    pub fn ancestors(&self) -> slice::Iter<'_, EntityUID>
+        ensures { map uid_of (iter_rest result) ≡ (entity_seen self.now).ancestors }
     {
-        self.ancestors.keys()
+        self.ancestors.uids()
     }
 
     /// Whether the uid is a recorded ancestor.
     pub fn is_descendant_of(&self, uid: &EntityUID) -> bool
         ensures { result ≡ list_any (uid_eq (uid_of uid.now)) (entity_seen self.now).ancestors }
     {
-        has_key(&self.ancestors, uid)
+        self.ancestors.has(uid)
     }
 
     /// Whether the uid is recorded as a parent.
     pub fn is_child_of(&self, uid: &EntityUID) -> bool
         ensures { result ≡ is_parent (kin_seen self.now) (uid_of uid.now) }
     {
-        match self.ancestors.get(uid) {
-            Some(is_parent) => *is_parent,
+        match self.ancestors.is_parent(uid) {
+            Some(is_parent) => is_parent,
             None => false,
         }
     }
@@ -225,8 +225,8 @@ impl Entity {
     pub fn is_indirect_descendant_of(&self, uid: &EntityUID) -> bool
         ensures { result ≡ is_indirect (kin_seen self.now) (uid_of uid.now) }
     {
-        match self.ancestors.get(uid) {
-            Some(is_parent) => !*is_parent,
+        match self.ancestors.is_parent(uid) {
+            Some(is_parent) => !is_parent,
             None => false,
         }
     }
@@ -241,7 +241,7 @@ impl Entity {
         ensures attribute_places { attribute_places self.new ≡ attribute_places self.old }
         ensures tag_places { tag_places self.new ≡ tag_places self.old }
     {
-        record_parent(&mut self.ancestors, uid)
+        self.ancestors.add_parent(uid)
     }
 
     /// Records the uid as an ancestor that is no parent, unless it is recorded, and nothing else. Fails only when out of memory.
@@ -254,7 +254,7 @@ impl Entity {
         ensures attribute_places { attribute_places self.new ≡ attribute_places self.old }
         ensures tag_places { tag_places self.new ≡ tag_places self.old }
     {
-        record_indirect(&mut self.ancestors, uid)
+        self.ancestors.add_indirect(uid)
     }
 }
 

@@ -4,13 +4,13 @@
 //! Used by the plain evaluator, built schemas (`action_entities`) and the gate's hosts.
 #![tactic(auto)]
 
+mod ancestors;
 pub mod entities;
 pub mod entity;
-mod entries;
 pub mod err;
 pub mod laws;
-mod recorded;
+mod uid_set;
 
-pub use entities::{Dereference, Entities};
+pub use entities::{Dereference, Entities, Mark};
 pub use entity::Entity;
 pub use err::{AbsenceError, EntitiesError};

@@ -32,7 +32,7 @@ returns-in_err-check_value-clause-refused g c =
 
 pub returns-in_err-put_value-clause-unchanged : goal.returns-in_err-put_value-clause-unchanged
 returns-in_err-put_value-clause-unchanged g c = handed_on _ c.from_residual-in_err-put_value.result
-    (record { gate = refl; start = refl; now = refl; bound = c.in_err-put_value.ensures.unchanged; loaded = refl; loading = record { wanted = refl; near = λ u. refl; rows = λ u. refl; level = refl } })
+    (record { gate = refl; start = refl; now = refl; bound = c.in_err-put_value.ensures.unchanged; loaded = record { entities = refl; seen = refl }; loading = record { wanted = refl; near = λ u. refl; rows = λ u. refl; level = refl } })
 
 pub returns-in-Ok-clause-at : goal.returns-in-Ok-clause-at
 returns-in-Ok-clause-at g c =
@@ -41,7 +41,7 @@ returns-in-Ok-clause-at g c =
     let m = made extension_of c.args.value in
     let opened : c.in_ok-is_open.field-0 ≡ true = search rules in
     λ x s at represented.
-    stands_bound g.G.GateCalls.suits x s d at n m _ c.roots_are_known.ensures c.a_binding_is_more.ensures (g.G.DeclaredActions.schema d.gate.now) (c.schema_is.ensures x (at.setup).gate) refl refl refl
+    stands_bound g.G.GateCalls.suits x s d at n m _ c.roots_are_known.ensures c.a_binding_is_more.ensures (g.G.DeclaredActions.schema d.gate.now) (c.schema_is.ensures x (at.setup).gate) refl refl (record { entities = refl; seen = refl })
     (subst (λ k. is_open_by (request_of d.start) (bound_in d.bound) k ≡ true) c.as_str.ensures.value (sym c.in_ok-is_open.ensures ∙ opened))
     (subst (λ k. takes (request_of d.start) k m) c.as_str-2.ensures.value c.in_ok-check_value.ensures.takes)
     c.in_ok-put_value.ensures.put (c.in-Ok.ensures.now x (at.setup).gate) (c.in-Ok.ensures.evaluates x (at.setup).gate) c.in-Ok.ensures.level c.in-Ok.ensures.rows c.in-Ok.ensures.wanting c.in-Ok.ensures.kept
@@ -82,6 +82,6 @@ returns-clause-unchanged g c =
       bound = taken_back (request_of d.start) (bound_in d.bound) (bound_in c.put_value.new.bound) (bound_in c.take_value.new.bound) n c.as_str-in-Err.result.now (made extension_of c.args.value)
           (subst (λ k. is_open_by (request_of d.start) (bound_in d.bound) k ≡ true) c.as_str.ensures.value (sym c.in_ok-is_open.ensures ∙ opened))
           (c.as_str-in-Err.ensures.value ∙ c.in_ok-key.ensures.cases) c.in_ok-put_value.ensures.put c.take_value.ensures;
-      loaded = refl;
+      loaded = record { entities = refl; seen = refl };
       loading = c.in-Err.ensures.unchanged;
     }

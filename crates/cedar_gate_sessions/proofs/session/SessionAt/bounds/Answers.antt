@@ -10,7 +10,7 @@ use Rattle.cedar_gate_model.specs.RunsAnswer.{session_of, IsAdmitted, AnswerFair
 use Rattle.cedar_gate_model.specs.Early.{KeepsBounds}
 use Rattle.cedar_gate_model.specs.Session.{scope_now}
 use Rattle.cedar_gate_model.proofs.Gate.Accepting.{accepted_good}
-use Rattle.cedar_gate_sessions.specs.Sessions.{IsAt, gate_of, policies_in, store_in, was_asked}
+use Rattle.cedar_gate_sessions.specs.Sessions.{IsAt, gate_of, loaded_in, policies_in, store_in, was_asked}
 use Rattle.cedar_gate_sessions.specs.Verdicts.{verdicts_of}
 use Rattle.cedar_gate_runs.proofs.Proper.{fairly_of}
 use Rattle.cedar_gate_sessions.proofs.Answered.{ok_each, bounds_in_part, distinct_of, ok_in_course}
@@ -41,5 +41,5 @@ returns-clause-kept g c =
     let x = session_of r in
     let values = g.met.G.GateCalls.makes_values (gate_of d) x (at.setup).gate in
     c.bounds_are_kept.ensures.kept r s (option_map bounds_of b) admitted (fairly_of r.functions values fair) at.opened
-    (bounds_in_part r s (store_in d) (steady x.schema (store_in d)) (λ u. made_alike x s d.loaded.items at.loaded u c.uids_are_uids.ensures (was_asked d)) ps is
+    (bounds_in_part r s (store_in d) (steady x.schema (store_in d)) (λ u. made_alike x s (loaded_in d) at.loaded u c.uids_are_uids.ensures (was_asked d)) ps is
     (known_store g.G.GateCalls.suits r s d at) (option_map bounds_of b) e))

@@ -5,7 +5,7 @@ use Rattle.cedar_evaluator_model.specs.Response.{response_of}
 use Rattle.cedar_evaluator_model.specs.Scope.{Scope}
 use Rattle.cedar_gate_model.specs.RunsAnswer.{session_of}
 use Rattle.cedar_gate_model.specs.Session.{scope_now}
-use Rattle.cedar_gate_sessions.specs.Sessions.{gate_of, policies_in, store_in, was_asked}
+use Rattle.cedar_gate_sessions.specs.Sessions.{gate_of, loaded_in, policies_in, store_in, was_asked}
 use Rattle.cedar_gate_sessions.specs.Verdicts.{verdicts_of}
 use Rattle.cedar_gate_runs.proofs.Proper.{fairly_of}
 use Rattle.cedar_gate_sessions.proofs.Answered.{decision_in_part}
@@ -23,7 +23,7 @@ pub returns-clause-in_part : goal.returns-clause-in_part
 returns-clause-in_part g c = λ r s at is.
     let d = c.args.self.now in
     let x = session_of r in
-    decision_in_part r s (store_in d) (steady x.schema (store_in d)) (λ u. made_alike x s d.loaded.items at.loaded u c.uids_are_uids.ensures (was_asked d)) (policies_in g.G.GateCalls.accepted d) is
+    decision_in_part r s (store_in d) (steady x.schema (store_in d)) (λ u. made_alike x s (loaded_in d) at.loaded u c.uids_are_uids.ensures (was_asked d)) (policies_in g.G.GateCalls.accepted d) is
     (known_store g.G.GateCalls.suits r s d at) (option_map decision_of c.decided.result) (returns-clause-exact g c x s at)
 
 pub returns-clause-kept : goal.returns-clause-kept

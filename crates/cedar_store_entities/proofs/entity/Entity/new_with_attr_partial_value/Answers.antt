@@ -1,4 +1,4 @@
-use Rattle.std.proofs.Common.{map, ap}
+use Rattle.std.proofs.Common.{map}
 use Rattle.cedar_expr_names.specs.Views.{uid_of}
 use Rattle.cedar_expr_partial.specs.Parts.{part_place}
 use Rattle.cedar_store_entities.specs.Views.{kin_in, part_seen}
@@ -14,8 +14,8 @@ returns-clause-tags c = ordered_parts part_seen c.in_ok-tags.tags.entries c.args
 
 pub returns-clause-ancestors : goal.returns-clause-ancestors
 returns-clause-ancestors c =
-    both_recorded (kin_in c.new-ancestors.result.entries) (kin_in c.record_indirects.new.kin.entries) (kin_in c.record_parents.new.kin.entries) (map uid_of c.args.indirect_ancestors.items) (map uid_of c.args.parents.items)
-    (ap kin_in c.new-ancestors.ensures.empty) c.in_ok-record_indirects.ensures c.in_ok-record_parents.ensures
+    both_recorded (kin_in c.new-ancestors.result) (kin_in c.add_indirects.new.self) (kin_in c.add_parents.new.self) (map uid_of c.args.indirect_ancestors.items) (map uid_of c.args.parents.items)
+    c.new-ancestors.ensures c.in_ok-add_indirects.ensures c.in_ok-add_parents.ensures
 
 pub returns-clause-attribute_places : goal.returns-clause-attribute_places
 returns-clause-attribute_places c = ordered_parts part_place c.in_ok-attrs.attrs.entries c.args.attrs.items c.in_ok-attrs.ensures

@@ -1,9 +1,0 @@
-use Rattle.std.proofs.Common.{not}
-use Rattle.cedar_store_entities.proofs.Kin.{told}
-use Rattle.cedar_store_entities.proofs.entity.Entity.is_indirect_descendant_of.Goals as goal
-
-pub returns-in-Some : goal.returns-in-Some
-returns-in-Some c = told not c.args.uid.now c.args.self.now.ancestors.entries c.get.result _ c.get.ensures.value c.in-Some.is
-
-pub returns-in-None : goal.returns-in-None
-returns-in-None c = told not c.args.uid.now c.args.self.now.ancestors.entries c.get.result _ c.get.ensures.value c.in-None.is
