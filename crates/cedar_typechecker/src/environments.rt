@@ -1,18 +1,17 @@
 //! The environments of actions.
 
-ghost use Rattle.std.specs.Prelude.{◌≡◌, ◌∷◌, [], map, IfOk, OnOk};
+ghost use Rattle.std.specs.Prelude.{◌≡◌, map, IfOk, OnOk};
 ghost use Rattle.std.specs.List.{flat_map};
-ghost use Rattle.cedar_expr_names.specs.Views.{type_name_of};
 ghost use Rattle.cedar_schema_entries.specs.Views.{action_seen};
 ghost use Rattle.cedar_schema_types.specs.Types.{type_of, attributes_of};
 ghost use Rattle.cedar_typechecker_environments.specs.Settings.{environment_of, AddsEnvironments};
-ghost use Rattle.cedar_typechecker_model.specs.Asked.{environment_kept, environments_with, environments_kept};
+ghost use Rattle.cedar_typechecker_model.specs.Asked.{environments_kept};
 ghost use Rattle.cedar_typechecker_model.specs.Seen.{context_of};
 
-use cedar_expr_names::{EntityType, EntityUID};
+use cedar_expr_names::EntityUID;
+use cedar_schema_built::request_types_of;
 use cedar_schema_entries::ValidatorActionId;
 use cedar_schema_types::{Attributes, Type};
-use cedar_store_parts::RequestType;
 use cedar_typechecker_environments::RequestEnv;
 use std::alloc::{AllocError, Global};
 use std::collections::btree_map::Values;
@@ -39,44 +38,11 @@ fn add_environments(
 ) -> Result<(), AllocError>
     ensures { OnOk result (AddsEnvironments found.old found.new (environments_kept (action_seen action.now))) }
 {
-    for principal in action.principals() {
-        add_with(alloc, found, action, principal)?;
+    let kinds = request_types_of(alloc, action)?;
+    for kind in kinds {
+        let context = attributes_in(alloc, action.context())?;
+        found.push(RequestEnv::of_request_type(kind, context))?;
     }
-    Ok(())
-}
-
-// Appends the environments of the action with principals of this type to those that were found.
-fn add_with(
-    alloc: Global,
-    found: &mut Vec<RequestEnv>,
-    action: &ValidatorActionId,
-    principal: &EntityType,
-) -> Result<(), AllocError>
-    ensures { OnOk result (AddsEnvironments found.old found.new (environments_with (action_seen action.now) (type_name_of principal.now))) }
-{
-    for resource in action.resources() {
-        add_environment(alloc, found, action, principal, resource)?;
-    }
-    Ok(())
-}
-
-// Appends the environment of the action with a principal and a resource of these types to those that were found.
-fn add_environment(
-    alloc: Global,
-    found: &mut Vec<RequestEnv>,
-    action: &ValidatorActionId,
-    principal: &EntityType,
-    resource: &EntityType,
-) -> Result<(), AllocError>
-    ensures { OnOk result (AddsEnvironments found.old found.new (environment_kept (action_seen action.now) (type_name_of principal.now) (type_name_of resource.now) ∷ [])) }
-{
-    let context = attributes_in(alloc, action.context())?;
-    let kind = RequestType {
-        principal: principal.clone()?,
-        action: action.name().clone()?,
-        resource: resource.clone()?,
-    };
-    found.push(RequestEnv::of_request_type(kind, context))?;
     Ok(())
 }
 
