@@ -8,9 +8,9 @@ ghost use Rattle.cedar_store_policies.specs.Policies.{policy_of, template_behind
 ghost use Rattle.cedar_store_policies.specs.Templates.{template_of};
 
 use crate::findings::{Finding, add};
-use crate::places::{Places, Step, placed};
 use cedar_expr_names::{EntityUID, Loc};
 use cedar_expr_trees::Expr;
+use cedar_gate_places::{Places, Step, placed};
 use cedar_store_parts::{
     ActionConstraint, PrincipalConstraint, PrincipalOrResource, PrincipalOrResourceConstraint,
     ResourceConstraint,

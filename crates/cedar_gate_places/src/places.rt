@@ -12,28 +12,28 @@ use std::alloc::{AllocError, Global};
 use std::collections::BTreeMap;
 use std::rc::{Rc, RcStr};
 
-/// The step to an expression from the one around it, which is written as a list and has this number.
+/// How an expression stands in the JSON of the one around it, which is a list.
 #[derive(Drop)]
 pub enum Step {
-    /// None: nothing is around it.
+    /// Nothing is around it.
     Whole,
-    /// To an item of the list.
+    /// It is an item of the list.
     Item {
-        /// The number of the expression around it.
+        /// The number of the place around it.
         of: usize,
         /// The number of the item.
         item: usize,
     },
-    /// To a member of the object that is the list's second item.
+    /// It is a member of the object that is the second item of the list.
     Field {
-        /// The number of the expression around it.
+        /// The number of the place around it.
         of: usize,
         /// The member's key.
         name: RcStr,
     },
 }
 
-/// The places of an expression and its parts, by their numbers.
+/// The places of an expression and of its parts, by their numbers: each is a step from the place around it.
 #[derive(Drop)]
 pub struct Places {
     steps: Vec<Step>,
@@ -68,7 +68,7 @@ impl Places {
         Ok(way)
     }
 
-    /// Appends to the pointer of the whole expression what leads from there to the place.
+    /// Appends to the pointer of the whole expression what leads from there to the place of a part.
     pub fn push_way(&self, alloc: Global, out: &mut String, place: Loc) -> Result<(), AllocError> {
         let way = self.way(alloc, place)?;
         for number in way.iter().rev() {
@@ -92,7 +92,8 @@ fn push_step(out: &mut String, step: &Step) -> Result<(), AllocError> {
     }
 }
 
-/// A copy of the expression to which this step leads, each part with its place. What a builder folded has no parts of its own.
+/// A copy of the expression, which stands as this step says; the `Loc` of each part is its number among the places. What a builder folded has
+/// no parts of its own.
 #[cycle(placed)]
 pub fn placed(
     alloc: Global,

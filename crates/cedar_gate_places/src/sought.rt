@@ -153,12 +153,12 @@ fn undeclared(alloc: Global, root: &Value, name: &ConditionalName) -> Result<Str
     first_written(alloc, root, sort, text)
 }
 
-/// The pointers of the external declarations.
+/// The pointers of the external declarations in a bundle's schema.
 pub fn external_declarations(alloc: Global, root: &Value) -> Result<Vec<String>, AllocError> {
     written(alloc, root, String::from_str(alloc, "/schema")?, "", None)
 }
 
-/// The pointer of what has this fault.
+/// The pointer of what has this fault in a bundle's schema: its last declaration, or the first place that names it; else of the schema.
 pub fn pointer_of(alloc: Global, root: &Value, error: &SchemaError) -> Result<String, AllocError> {
     match error {
         SchemaError::OutOfMemory => Err(AllocError),

@@ -1,7 +1,7 @@
 //! The forms of a bundle's parts: which parts each has, the least object that has one, and what is expected in its place.
 
-/// A form, by its name.
-pub type Form = &'static str;
+// A form, by its name.
+pub(crate) type Form = &'static str;
 
 // The forms of the members of each form by their keys, where `*` is any key and `[]` any item of a list.
 const PARTS: &str = "\
@@ -116,8 +116,8 @@ fn after(rows: &'static str, word: &str) -> Option<&'static str> {
     None
 }
 
-/// The form of the part at the key of a form: `[]` stands for an item.
-pub fn part_form(form: Form, key: &str) -> Option<Form> {
+// The form of the part at the key of a form: `[]` stands for an item.
+pub(crate) fn part_form(form: Form, key: &str) -> Option<Form> {
     for part in after(PARTS, form).unwrap_or("").split_whitespace() {
         if let Some((at, of)) = part.split_once(':') {
             if at == key || at == "*" {
@@ -128,21 +128,21 @@ pub fn part_form(form: Form, key: &str) -> Option<Form> {
     None
 }
 
-/// Whether an object of the form has members with forms.
-pub fn has_members(form: Form) -> bool {
+// Whether an object of the form has members with forms.
+pub(crate) fn has_members(form: Form) -> bool {
     match after(PARTS, form) {
         Some(parts) => !parts.starts_with("[]"),
         None => false,
     }
 }
 
-/// What is expected in the place of a part of the form.
-pub fn expected(form: Form) -> &'static str {
+// What is expected in the place of a part of the form.
+pub(crate) fn expected(form: Form) -> &'static str {
     after(EXPECTED, form).unwrap_or(form)
 }
 
-/// What is expected after this word of a list that is an expression.
-pub fn expected_after(word: &str) -> &'static str {
+// What is expected after this word of a list that is an expression.
+pub(crate) fn expected_after(word: &str) -> &'static str {
     match after(FOLLOWED, word) {
         Some(expected) => expected,
         None if is_operator(word) => "two expressions",
@@ -160,8 +160,8 @@ fn is_operator(word: &str) -> bool {
     false
 }
 
-/// The keys that an object of the form has to have.
-pub fn required_keys(form: Form) -> &'static str {
+// The keys that an object of the form has to have.
+pub(crate) fn required_keys(form: Form) -> &'static str {
     match form {
         "bundle" => "version level limit schema policies request store",
         "policy" => "id effect",
@@ -172,8 +172,8 @@ pub fn required_keys(form: Form) -> &'static str {
     }
 }
 
-/// The least object to which one member of the form may be added, as JSON.
-pub fn least_object(form: Form) -> &'static str {
+// The least object to which one member of the form may be added, as JSON.
+pub(crate) fn least_object(form: Form) -> &'static str {
     match form {
         "bundle" => {
             r#"{"version": 1, "level": 0, "limit": 16, "schema": [], "policies": [], "store": [],
@@ -187,8 +187,8 @@ pub fn least_object(form: Form) -> &'static str {
     }
 }
 
-/// Whether an item of a list that begins with this word is an expression.
-pub fn is_expression_at(word: &str, i: usize) -> bool {
+// Whether an item of a list that begins with this word is an expression.
+pub(crate) fn is_expression_at(word: &str, i: usize) -> bool {
     match word {
         "uid" | "var" | "slot" | "unknown" | "record" => false,
         "get" | "has" | "like" | "is" => i == 1,

@@ -11,11 +11,14 @@ use cedar_gate_expressions::{Version, read_expression, read_json};
 use serde_json::{Map, Value};
 use std::alloc::{AllocError, Global};
 
-/// A part that doesn't read, by its pointer, what is expected in its place, and, in an expression, after this word.
+/// A part of a bundle that doesn't read.
 #[derive(Drop)]
 pub struct Unread {
+    /// Its pointer.
     pub path: String,
+    /// What is expected in its place, or behind its word.
     pub expected: &'static str,
+    /// The word that the part begins with, where it is an expression that has to go on otherwise.
     pub after: Option<String>,
 }
 

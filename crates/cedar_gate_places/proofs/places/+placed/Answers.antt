@@ -6,8 +6,8 @@ use Rattle.cedar_expr_trees.specs.Trees.{tree_of, kind_tree, named, field_trees}
 use Rattle.cedar_expr_trees.proofs.Sizes.{arguments_are_smaller}
 use Rattle.cedar_expr_trees.proofs.Trees.{call_tree, set_tree, record_tree}
 use Rattle.cedar_typechecker_answers.proofs.Copied.{one_more, all_made, drop_here, none_left, named_trees}
-use Rattle.cedarcheck.proofs.Copying.{copied_fields}
-use Rattle.cedarcheck.proofs.places.+placed.Goals as goal
+use Rattle.cedar_gate_places.proofs.Copying.{copied_fields}
+use Rattle.cedar_gate_places.proofs.places.+placed.Goals as goal
 
 pub placed-parts-requires : goal.placed-parts-requires
 placed-parts-requires t c =
