@@ -1,5 +1,5 @@
-/* Preloaded into a program, this refuses its Nth request for memory, N being in REFUSE and counted from 1.
-   When it does, it makes the file that REFUSED names: a run that leaves no such file made fewer than N requests. */
+/* Preloaded into a program, this refuses its Nth request for memory, N being in REFUSE and counted from 1, and each later one too where
+   REFUSE_ON is set. At the Nth it makes the file that REFUSED names: a run that leaves no such file made fewer than N requests. */
 #define _GNU_SOURCE
 #include <errno.h>
 #include <fcntl.h>
@@ -9,9 +9,14 @@
 extern void *__libc_malloc(size_t), *__libc_calloc(size_t, size_t), *__libc_realloc(void *, size_t);
 extern void *__libc_memalign(size_t, size_t);
 static unsigned long wanted, met; /* wanted stays 0, so that nothing is refused, until the libraries are loaded */
+static int goes_on;
 
 static int refused(void) {
-    if (!wanted || ++met != wanted) return 0;
+    if (!wanted || ++met < wanted) return 0;
+    if (met > wanted) {
+        if (goes_on) errno = ENOMEM;
+        return goes_on;
+    }
     const char *name = getenv("REFUSED");
     int file = name ? open(name, O_CREAT | O_WRONLY, 0600) : -1;
     if (file >= 0) close(file);
@@ -21,6 +26,7 @@ static int refused(void) {
 
 __attribute__((constructor)) static void begin(void) {
     const char *n = getenv("REFUSE");
+    goes_on = getenv("REFUSE_ON") != NULL;
     wanted = n ? strtoul(n, NULL, 10) : 0;
 }
 
