@@ -4,15 +4,15 @@ use crate::desk::{Desk, Made, Part};
 use crate::said::{found_value, left, two};
 use cedar_evaluator_core::Evaluator;
 use cedar_evaluator_errors::EvaluationError;
-use cedar_evaluator_operators::binary_arith;
+use cedar_evaluator_operators::{any_entity_type, binary_arith, binary_relation, unary_app};
 use cedar_expr_functions::Extensions;
-use cedar_expr_leaves::BinaryOp;
+use cedar_expr_leaves::{BinaryOp, UnaryOp};
 use cedar_expr_trees::{Expr, ExprKind};
-use cedar_test_exprs::{at, both, expr, made, say, show, tell, value};
+use cedar_test_exprs::{at, both, expr, made, say, show, tell, told, value};
 use std::alloc::{AllocError, Global};
 use std::rc::RcStr;
 
-// Does the command, which is one of these: `limit 3`, `left E`, `value E`, `unknowns E`, `at E`, `error E`, `arith % 7 3`.
+// Does the command, where it is one of these: `limit 3`, `left E`, `value E`, `unknowns E`, `at E`, `error E`; or one that `applied` does.
 pub fn done(
     desk: &mut Desk,
     table: &Extensions<'_>,
@@ -28,7 +28,24 @@ pub fn done(
         "unknowns" => open(desk, table, rest, said),
         "at" => placed(desk, table, rest, said),
         "error" => refused(desk, table, rest, said),
-        "arith" => arithmetic(desk.alloc, rest, wanted, said),
+        _ => applied(desk.alloc, table, verb, rest, wanted, said),
+    }
+}
+
+// Does the command, which is one of these: `arith % 7 3`, `unary ! true`, `relation < 1 2`, `any_entity`.
+fn applied(
+    alloc: Global,
+    table: &Extensions<'_>,
+    verb: &str,
+    rest: &str,
+    wanted: &str,
+    said: &mut String,
+) -> Made<()> {
+    match verb {
+        "arith" => arithmetic(alloc, rest, wanted, said),
+        "unary" => unary(alloc, rest, wanted, said),
+        "relation" => relation(alloc, table, rest, wanted, said),
+        "any_entity" => told(alloc, said, any_entity_type(alloc)),
         _ => Err(AllocError),
     }
 }
@@ -145,6 +162,39 @@ fn arithmetic(alloc: Global, text: &str, wanted: &str, said: &mut String) -> Mad
         "-" => binary_arith(alloc, BinaryOp::Sub, &arg1, &arg2, None),
         "*" => binary_arith(alloc, BinaryOp::Mul, &arg1, &arg2, None),
         "%" => binary_arith(alloc, BinaryOp::Rem, &arg1, &arg2, None),
+        _ => return Err(AllocError),
+    };
+    found_value(alloc, said, found, wanted)
+}
+
+// Says what the operator of one operand gives of a value, by its own call.
+fn unary(alloc: Global, text: &str, wanted: &str, said: &mut String) -> Made<()> {
+    let (op, text) = two(text);
+    let arg = value(alloc, text)?;
+    let found = match op {
+        "!" => unary_app(alloc, UnaryOp::Not, &arg, None),
+        "neg" => unary_app(alloc, UnaryOp::Neg, &arg, None),
+        "isEmpty" => unary_app(alloc, UnaryOp::IsEmpty, &arg, None),
+        _ => return Err(AllocError),
+    };
+    found_value(alloc, said, found, wanted)
+}
+
+// Says whether the relation holds of two values, by its own call.
+fn relation(
+    alloc: Global,
+    table: &Extensions<'_>,
+    text: &str,
+    wanted: &str,
+    said: &mut String,
+) -> Made<()> {
+    let (op, values) = two(text);
+    let (arg1, arg2) = two(values);
+    let (arg1, arg2) = both(value(alloc, arg1), value(alloc, arg2))?;
+    let found = match op {
+        "==" => binary_relation(alloc, BinaryOp::Eq, &arg1, &arg2, table),
+        "<" => binary_relation(alloc, BinaryOp::Less, &arg1, &arg2, table),
+        "<=" => binary_relation(alloc, BinaryOp::LessEq, &arg1, &arg2, table),
         _ => return Err(AllocError),
     };
     found_value(alloc, said, found, wanted)

@@ -119,6 +119,8 @@ left set=0 isEmpty : value true
 left 1 set=1 isEmpty : value false
 left $u isEmpty : residual $u isEmpty
 left 1 isEmpty : type error: expected set, got long
+limit 3 ; left true ! ! : value true
+limit 2 ; left true ! ! : recursion limit reached
 limit 3 ; value true ! ! : true
 limit 2 ; value true ! ! : recursion limit reached
 limit 3 ; value $u ! ! : the expression contains unknown(s)
@@ -192,6 +194,17 @@ arith % 5 0 : remainder by zero
 arith % 1 true : type error: expected long, got bool
 arith % "a 0 : type error: expected long, got string
 arith + 9223372036854775807 1 : integer overflow while attempting to add the values `x` and `y`
+# the other operators by their own calls, and the name of the type of any entity
+unary ! true : false
+unary neg 5 : -5
+unary isEmpty set=0 : true
+unary neg -9223372036854775808 : integer overflow while attempting to negate the value `x`
+unary ! 5 : type error: expected bool, got long
+relation == 1 true : false
+relation < 1 2 : true
+relation <= ext=rank/"7/7 ext=rank/"7/7 : true
+relation < ext=mark/"7/7 ext=mark/"8/8 : type error: expected one of [long, rank], got mark
+any_entity : any_entity_type
 # sets
 left 8 2 101 set=3 : value 8 2 101 set=3
 left set=0 : value set=0

@@ -5,7 +5,7 @@ use crate::desk::{Desk, Made, Part};
 use crate::made::{pairs, restricted, several};
 use crate::said::{made, same, two};
 use cedar_evaluator_restricted_exprs::{
-    BorrowedRestrictedExpr, RestrictedExpr, RestrictedExpressionError,
+    BorrowedRestrictedExpr, RestrictedElements, RestrictedExpr, RestrictedExpressionError,
 };
 use cedar_expr_functions::Extensions;
 use cedar_expr_trees::Expr;
@@ -14,7 +14,8 @@ use cedar_test_exprs::{at, both, expr, literal, name, refused, say, show, tell, 
 use std::alloc::{AllocError, Global};
 use std::fmt::Display;
 
-// Does the command, where it is one of these: `restricted E`, `borrowed E`, `part E | P`, `copy E`, `type E`, or one that `of_parts` does.
+// Does the command, where it is one of these: `restricted E`, `borrowed E`, `part E | P`, `held E`, `copy E`, `type E`, or one that
+// `of_parts` does.
 pub fn asked(
     desk: &mut Desk,
     table: &Extensions<'_>,
@@ -31,6 +32,7 @@ pub fn asked(
             refused(alloc, said, BorrowedRestrictedExpr::new(alloc, &e))
         }
         "part" => part(alloc, said, rest, wanted),
+        "held" => held(alloc, said, rest),
         "copy" => copy(alloc, said, rest),
         "type" => core_type(alloc, table, said, rest),
         _ => of_parts(desk, table, verb, rest, wanted, said),
@@ -81,6 +83,36 @@ fn part(alloc: Global, said: &mut String, text: &str, wanted: &str) -> Made<()> 
         }
         _ => say(said, "nothing is refused"),
     }
+}
+
+// Says what stands in a set, in a call, behind its function, or in a record.
+fn held(alloc: Global, said: &mut String, text: &str) -> Made<()> {
+    let e = restricted(alloc, text)?;
+    if let Some(members) = e.as_set_elements() {
+        return numbers(alloc, said, members);
+    }
+    if let Some((called, args)) = e.as_extn_fn_call() {
+        show(alloc, said, called)?;
+        return numbers(alloc, said, args);
+    }
+    fields(alloc, said, &e)
+}
+
+// Says the fields of a record, each behind its name.
+fn fields(alloc: Global, said: &mut String, e: &RestrictedExpr) -> Made<()> {
+    for (name, field) in e.as_record_pairs().ok_or(AllocError)? {
+        say(said, name.as_str())?;
+        show(alloc, said, &field.as_long().ok_or(AllocError)?)?;
+    }
+    Ok(())
+}
+
+// Says the whole numbers that these are.
+fn numbers(alloc: Global, said: &mut String, parts: RestrictedElements<'_>) -> Made<()> {
+    for part in parts {
+        show(alloc, said, &part.as_long().ok_or(AllocError)?)?;
+    }
+    Ok(())
 }
 
 // Whether copies are equal to what was copied, and where the copy is.

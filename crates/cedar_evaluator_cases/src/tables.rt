@@ -91,6 +91,10 @@ type $t : none
 type $t:Bool : bool
 type "a call=yes/1 : bool
 type 1 set=1 : set
+# what stands in a set, a record and a call: whole numbers, behind the names of fields or that of the function
+held 2 1 set=2 : 2 1
+held 2 1 record=b,a : a 1 b 2
+held 2 1 call=f/2 : f 2 1
 # copies
 copy 1@4 set=1@3 : yes yes @3
 # made of parts
@@ -162,6 +166,8 @@ variable action ? : residual $action
 # requests
 empty ; new User::a Action::view Doc::d ; kind : User Action::"view" Doc
 request User::a Action::view ? ; kind : none
+asked_of_all User::a Action::view ?Doc ; kind : none
+empty ; asked_of_all User::a Action::view Doc::d ; passes ; kind : yes User Action::"view" Doc
 request User::a Action::view Doc::d ; kind : User Action::"view" Doc
 "##;
 

@@ -5,12 +5,12 @@ use crate::responses::decision_text;
 use crate::said::{same, say_ids, say_policies, say_policy};
 use cedar_evaluator::PartialResponse;
 use cedar_evaluator_requests::EntityUIDEntry;
-use cedar_store_policies::{Policy, PolicyID};
+use cedar_store_policies::{ActionConstraint, Policy, PolicyID, PrincipalOrResourceConstraint};
 use cedar_test_exprs::{say, show};
 use std::alloc::{AllocError, Global};
 
-// Does the command: `decision`, `satisfied`, `may`, `must`, `left`, `left_forbids`, `all`, `erred`, `left_ids`, `get p`, `body p`, `asked`.
-// Of `body` the answer is an expression. Fails where it is none of these.
+// Does the command: `decision`, `satisfied`, `may`, `must`, `left`, `left_forbids`, `all`, `erred`, `left_ids`, `get p`, `scope p`, `body p`,
+// `asked`. Of `body` the answer is an expression. Fails where it is none of these.
 pub fn done(
     alloc: Global,
     response: &PartialResponse,
@@ -30,6 +30,7 @@ pub fn done(
             say_ids(said, ids.as_slice())
         }
         "get" => found(alloc, response, rest, said),
+        "scope" => scope(alloc, response, rest, said),
         "body" => body(alloc, response, rest, wanted, said),
         "asked" => asked(alloc, response, said),
         _ => listed(alloc, response, verb, said),
@@ -73,7 +74,39 @@ fn found(alloc: Global, response: &PartialResponse, id: &str, said: &mut String)
     }
 }
 
-// What the policy of an id asks.
+fn scope(alloc: Global, response: &PartialResponse, id: &str, said: &mut String) -> Made<()> {
+    let policy = of_id(alloc, response, id)?.ok_or(AllocError)?;
+    say_scope(said, &policy)
+}
+
+// Says what the policy asks of principal, action and resource.
+fn say_scope(said: &mut String, policy: &Policy) -> Made<()> {
+    say_constraint(said, &policy.principal_constraint()?.constraint)?;
+    say(
+        said,
+        match policy.action_constraint() {
+            ActionConstraint::Any => "any",
+            ActionConstraint::In(_) => "in",
+            ActionConstraint::Eq(_) => "==",
+        },
+    )?;
+    say_constraint(said, &policy.resource_constraint()?.constraint)
+}
+
+fn say_constraint(said: &mut String, asked: &PrincipalOrResourceConstraint) -> Made<()> {
+    say(
+        said,
+        match asked {
+            PrincipalOrResourceConstraint::Any => "any",
+            PrincipalOrResourceConstraint::In(_) => "in",
+            PrincipalOrResourceConstraint::Eq(_) => "==",
+            PrincipalOrResourceConstraint::Is(_) => "is",
+            PrincipalOrResourceConstraint::IsIn(_, _) => "is in",
+        },
+    )
+}
+
+// What the policy of an id asks beside its scope.
 fn body(
     alloc: Global,
     response: &PartialResponse,

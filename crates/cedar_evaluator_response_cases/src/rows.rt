@@ -244,6 +244,9 @@ left_forbids : forbid h
 all : permit a id x permit b permit c permit d forbid e forbid h
 get a : permit a id x
 get d : permit d
+scope a : any any any
+scope c : any any any
+scope h : any any any
 body b : false
 body h : $u
 copy : done

@@ -27,6 +27,10 @@ read ::A : ------ ---
 read A:::B : ------ ---
 read A:: B : ------ ---
 read A::if : ------ ---
+# whether a text is an identifier
+ident a : yes
+ident if : no
+ident A::B : no
 # copies of an id, an unreserved id, any id, an internal name, a name, an entity type and a raw name
 copies a : a a a a a a a
 # how names are shown, and how they are refused
@@ -59,6 +63,8 @@ alone T : T T
 # copies of a uid, of its type and of its id
 uid User::a : User::"a" User a
 uid A::B::a"b\é : A::B::"a\"b\\\u{e9}" A::B a"b\é
+# the text of the uid of the type `User` whose id is an `a`, a quote, a `b`, a backslash, a line feed and an `é`
+uid_of_lines : User::"a\"b\\\u{a}\u{e9}"
 # a copy of a pattern; a `*` is a wildcard
 pattern a*"é : a*\"\u{e9}
 pattern : nothing
@@ -110,6 +116,8 @@ asked 1 1 record=a set=2 | 2 : 2 none no
 asked 1 set=1 2 set=1 set=2 | 2 set=1 : 2 none yes
 asked ext=decimal/"1.0/1 set=1 | ext=decimal/"1.00/1 : 1 none yes
 asked set=0 | 1 : 0 0 no
+# the members of a set of literals, each once, in rising order
+from_literals 2 1 2 : 1 2
 # whether the one set is a subset of the other, the other of the one, and whether they are disjoint, asked of each; also where one has many
 # more members
 sides 1 2 set=2 | 3 2 1 set=3 : yes no no no

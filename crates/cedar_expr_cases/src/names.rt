@@ -3,13 +3,16 @@
 use crate::raw_names;
 use cedar_expr_leaves::RawName;
 use cedar_expr_names::*;
-use cedar_test_exprs::{copied, entity_type, kept, made, name, say, show, told, told_copy, uid};
+use cedar_test_exprs::{
+    copied, entity_type, kept, made, name, say, show, tell, told, told_copy, uid, uid_of,
+};
 use std::alloc::{AllocError, Global};
 
 // Does the command, or one of those on raw names and values.
 pub fn done(alloc: Global, said: &mut String, verb: &str, rest: &str) -> Result<(), AllocError> {
     match verb {
         "read" => read(alloc, said, rest),
+        "ident" => tell(said, is_normalized_ident(rest)),
         "copies" => copies(alloc, said, rest),
         "name" => told(alloc, said, Name::from_normalized_str(alloc, rest)),
         "borrowed" => borrowed(alloc, said, rest),
@@ -23,6 +26,7 @@ pub fn done(alloc: Global, said: &mut String, verb: &str, rest: &str) -> Result<
         "joined" => joined(alloc, said, rest),
         "apart" => apart(alloc, said, rest),
         "uid" => of_uid(alloc, said, rest),
+        "uid_of_lines" => of_lines(alloc, said),
         _ => raw_names::done(alloc, said, verb, rest),
     }
 }
@@ -127,4 +131,9 @@ fn of_uid(alloc: Global, said: &mut String, text: &str) -> Result<(), AllocError
     copied(alloc, said, uid.entity_type())?;
     let id = kept(alloc, uid.eid().clone())?;
     say(said, id.as_str())
+}
+
+// The id has a line feed, which no row can hold.
+fn of_lines(alloc: Global, said: &mut String) -> Result<(), AllocError> {
+    told(alloc, said, uid_of(alloc, "User", "a\"b\\\né"))
 }

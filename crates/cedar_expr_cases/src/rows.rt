@@ -7,6 +7,7 @@ use std::alloc::{AllocError, Global};
 const ROWS: &str =
     r#"# the root of what is made: its operator, name or literal; two truth values make their literal
 root true true && : true
+root true false && : false
 root false true || : true
 root true $u && : &&
 root 1 true || : ||

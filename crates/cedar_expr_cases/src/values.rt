@@ -21,6 +21,7 @@ pub fn done(alloc: Global, said: &mut String, verb: &str, rest: &str) -> Result<
         "made" => copy(alloc, said, rest),
         "asked" => asked(alloc, said, rest),
         "sides" => sides(alloc, said, rest),
+        "from_literals" => from_literals(alloc, said, rest),
         _ => Err(AllocError),
     }
 }
@@ -164,6 +165,14 @@ fn sides(alloc: Global, said: &mut String, text: &str) -> Result<(), AllocError>
     tell(said, second.is_subset(first))?;
     tell(said, first.is_disjoint(second))?;
     tell(said, second.is_disjoint(first))
+}
+
+fn from_literals(alloc: Global, said: &mut String, text: &str) -> Result<(), AllocError> {
+    let set: Set<ExtValue> = Set::from_lits(alloc, literals(alloc, text)?)?;
+    for member in set.authoritative() {
+        literal_shown(alloc, said, member)?;
+    }
+    Ok(())
 }
 
 // Says the members of a set, or the fields of a record.

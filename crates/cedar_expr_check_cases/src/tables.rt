@@ -7,11 +7,13 @@ ghost use Rattle.cedar_expr_model.specs.Value.{prim, truth};
 ghost use Rattle.cedar_expr_functions.specs.Answers.{IsStored, answer, is_of_result};
 ghost use Rattle.cedar_expr_functions.specs.declared.err.CallFault.TheVariants.{OutOfMemory};
 
+use cedar_expr_functions::util::collect_no_duplicates;
 use cedar_expr_functions::{CheckExpr, ExprValidationError, *};
 use cedar_expr_leaves::Literal;
 use cedar_expr_values::{ExtValue, Type, Value, ValueKind};
-use cedar_test_exprs::{both, expr, name, parted, refused, say, show, value};
+use cedar_test_exprs::{both, expr, name, parted, refused, say, show, tell, value, word};
 use std::alloc::{AllocError, Global};
+use std::rc::RcStr;
 
 type V = Value<ExtValue>;
 
@@ -23,6 +25,7 @@ function open leaves String String
 function nearer binary Long Bool
 function between ternary Long Bool
 types : rank
+typed : no
 find rank : rank
 find none : extension function `none` does not exist
 check "a call=rank/1 : done
@@ -68,12 +71,17 @@ type record= : record
 
 function f nullary rank rank
 types : rank
+typed : yes
 find f : f
 type call=f/0 : rank
 
 function f unary String rank
 function g unary String rank
 function f unary String rank
+refused : extension function `f` is defined multiple times
+
+function f unary String rank
+function f nullary rank rank
 refused : extension function `f` is defined multiple times
 
 function f unary String rank
@@ -85,6 +93,9 @@ call : wrong number of arguments provided to extension function `one`: expected 
 call "a "b : wrong number of arguments provided to extension function `one`: expected 1, got 2
 call 1 : type error: expected string, got long
 failed : error while evaluating `decimal` extension function: too many digits
+typed : yes
+collected b a : a b
+collected b a c a b : duplicate key `a`
 repeated : duplicate key `2`
 no_memory : out of memory out of memory out of memory out of memory out of memory
 "#;
@@ -214,11 +225,13 @@ fn asked(
 ) -> Result<(), AllocError> {
     match verb {
         "types" => types(alloc, said, table),
+        "typed" => tell(said, table.all_typed()),
         "find" => find(alloc, said, table, rest),
         "check" => refused(alloc, said, expr(alloc, rest)?.try_validate(alloc, table)),
         "type" => type_shown(alloc, said, table, rest),
         "call" => called(alloc, said, rest),
         "failed" => failed(alloc, said),
+        "collected" => collected(alloc, said, rest),
         "repeated" => show(alloc, said, &CollectError::Repeated(2u8)),
         "no_memory" => no_memory(alloc, said),
         _ => Err(AllocError),
@@ -313,6 +326,28 @@ fn failed(alloc: Global, said: &mut String) -> Result<(), AllocError> {
         advice: None,
     };
     show(alloc, said, &fault)
+}
+
+// The words as keys, each with the number 0.
+fn keyed(alloc: Global, text: &str) -> Result<Vec<(RcStr, u8)>, AllocError> {
+    let mut pairs = Vec::new(alloc);
+    for text in text.split(' ') {
+        pairs.push((word(alloc, text)?, 0))?;
+    }
+    Ok(pairs)
+}
+
+// Says the words in their order, or the first that stands twice.
+fn collected(alloc: Global, said: &mut String, text: &str) -> Result<(), AllocError> {
+    match collect_no_duplicates(alloc, keyed(alloc, text)?) {
+        Ok(words) => {
+            for word in words.keys() {
+                say(said, word.as_str())?;
+            }
+            Ok(())
+        }
+        Err(repeated) => show(alloc, said, &repeated),
+    }
 }
 
 fn no_memory(alloc: Global, said: &mut String) -> Result<(), AllocError> {

@@ -7,9 +7,9 @@ use cedar_expr_leaves::{ConditionalName, ReferenceType};
 use cedar_expr_names::InternalName;
 use cedar_schema_builder::{DefsOfFragments, check_reserved};
 use cedar_schema_decl::{AllDefs, EntityTypeFragment, resolve};
-use cedar_schema_examples::{WrittenName, listed};
+use cedar_schema_examples::{WrittenName, listed, name};
 use cedar_schema_fragments::ValidatorNamespaceDef;
-use cedar_test_exprs::kept;
+use cedar_test_exprs::{kept, uid};
 use std::alloc::{AllocError, Global};
 
 // Answers a question. Fails where the fragments of the case are refused.
@@ -18,6 +18,7 @@ pub fn answer(desk: &Desk, verb: &str, rest: &str, said: &mut String) -> Result<
     match verb {
         "names" => names(desk.alloc, &fragments, said),
         "checked" => checked(desk.alloc, &fragments, said),
+        "marked" => marked(desk.alloc, &fragments, rest, said),
         _ => means(desk.alloc, &fragments, rest, said),
     }
 }
@@ -51,6 +52,28 @@ fn checked(alloc: Global, fragments: &[Written], said: &mut String) -> Result<()
     pass(alloc, check_reserved(fragments), said)?;
     let first = fragments.first().ok_or(AllocError)?;
     let all_defs = AllDefs::single_fragment(alloc, first)?;
+    pass(alloc, all_defs.rfc_70_shadowing_checks(alloc), said)
+}
+
+// Marks an entity type, a common type or an action as declared.
+fn mark(alloc: Global, all_defs: &mut AllDefs, text: &str) -> Result<(), AllocError> {
+    match text.split_once(' ') {
+        Some(("entity", text)) => all_defs.mark_as_defined_as_entity_type(name(alloc, text)?),
+        Some(("common", text)) => all_defs.mark_as_defined_as_common_type(name(alloc, text)?),
+        Some(("action", text)) => all_defs.mark_as_defined_as_action(uid(alloc, text)?),
+        _ => Err(AllocError),
+    }
+}
+
+// Whether a name shadows another where this is declared too.
+fn marked(
+    alloc: Global,
+    fragments: &[Written],
+    rest: &str,
+    said: &mut String,
+) -> Result<(), AllocError> {
+    let mut all_defs = AllDefs::new(alloc, fragments)?;
+    mark(alloc, &mut all_defs, rest)?;
     pass(alloc, all_defs.rfc_70_shadowing_checks(alloc), said)
 }
 

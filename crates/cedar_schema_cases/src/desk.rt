@@ -1,8 +1,9 @@
 //! What the rows of a case work on, and how they are gone over.
 //!
 //! A row `QUESTION => ANSWER` asks, and the answer is compared whole. A row that begins with `#` begins a case anew. Any other row
-//! declares something: a line of `cedar_schema_examples::fragment`; `fragment` alone, behind which another fragment begins; or
-//! `common A | Set of T` or `commons A | Set of T`, a fragment of its own that declares this common type alone.
+//! declares something: a line of `cedar_schema_examples::fragment`; `fragment` alone, behind which another fragment begins;
+//! `common A | Set of T` or `commons A | Set of T`, a fragment of its own that declares this common type alone; or `apart N`, behind which
+//! all that is declared in this namespace stands, which is a fragment of its own.
 
 use crate::written::{Written, written};
 use crate::{building, declaring, reading, sound, steps};
@@ -12,7 +13,8 @@ use cedar_schema_fragments::FragmentError;
 use std::alloc::{AllocError, Global};
 
 // The words that begin a row that declares something.
-const DECLARING: &str = "type entity enum extern action outside namespace fragment common commons";
+const DECLARING: &str =
+    "type entity enum extern action outside namespace fragment common commons apart";
 
 pub struct Desk {
     pub alloc: Global,
@@ -72,11 +74,12 @@ fn answer(
     let (verb, rest) = question.split_once(' ').unwrap_or((question, ""));
     match verb {
         "schema" => building::schema(desk, table, said),
+        "schema_without" => building::schema(desk, &Extensions::none(desk.alloc), said),
         "steps" => steps::steps(desk, table, said),
         "refusal" => steps::refusal(desk.alloc, rest, said),
         "validate" => sound::validate(desk, rest, table, said),
         "validate_without" => sound::validate(desk, rest, &Extensions::none(desk.alloc), said),
-        "names" | "checked" | "means" => declaring::answer(desk, verb, rest, said),
+        "names" | "checked" | "marked" | "means" => declaring::answer(desk, verb, rest, said),
         _ => reading::answer(desk.alloc, &desk.schema, verb, rest, said),
     }
 }

@@ -5,7 +5,10 @@
 //! - `means DUE NAME`: what a name means where an `entity`, a `common` type or `either` is due, or whether it may be a `parent`; a name
 //!   `N/T` is `T`, written in the namespace `N`
 //! - `checked`: whether a name that is written is reserved, and whether a name of the first fragment shadows another of it
-//! - `schema`: the entity types and actions of the schema that is built, each over what descends from it, or the refusal
+//! - `marked entity NAME`: whether a name shadows another where this entity type is declared too, or, with `common NAME` or `action UID`,
+//!   this common type or action
+//! - `schema`: the entity types and actions of the schema that is built, each over what descends from it, or the refusal; with
+//!   `schema_without` no extension type is known
 //! - `steps`: the same by a call for each step, in the order of the declarations, without the checks of names
 //!
 //! And of the schema that was built last:
@@ -15,7 +18,7 @@
 //! - `attributes TYPE`, `attributes TYPE | NAME`: all attributes of a type, or what is declared of one for all its values
 //! - `places`: the common types, namespaces, entity types and actions, with their places and those of attributes
 //! - `validate`: whether it is sound, or, in `validate A < B; B | Action::a`, the one with these entity types and actions, where the name
-//!   behind a `<` is of what descends; with `validate_without` no extension type is known
+//!   behind a `<` is of what descends, and `Color` has members; with `validate_without` no extension type is known
 
 ghost use Rattle.std.specs.Prelude.{◌≡◌, Err};
 ghost use Rattle.cedar_expr_functions.specs.declared.err.CallFault.TheVariants.{OutOfMemory};
@@ -46,6 +49,12 @@ common A | Long
 fragment
 commons B | Long
 names => -; types A entities actions; -; types B entities actions
+# what a namespace declares is the same by a call of its own
+apart N::M
+entity A
+type T | A
+action view
+names => N::M; types N::M::T entities N::M::A actions N::M::Action::"view"
 # no fragment declares nothing
 names =>
 # what several fragments declare is declared together
@@ -168,6 +177,15 @@ fragment
 entity User
 type T | __cedar
 checked => the name `__cedar` is reserved; passed
+# a type or an action of the empty namespace that is marked as declared counts as one
+namespace N
+entity User
+type T | Long
+action view
+marked entity Bot => passed
+marked entity User => definition of `N::User` illegally shadows a type of the empty namespace
+marked common T => definition of `N::T` illegally shadows a type of the empty namespace
+marked action Action::view => definition of `N::Action::"view"` illegally shadows an action of the empty namespace
 ## schemas that are built, all at once and step by step, and those that are refused, with the numbers of the faults
 # nothing is built of nothing
 schema =>
@@ -333,12 +351,19 @@ entity User
 namespace N::M
 enum Action | view
 schema => refused 8: entity type `N::M::Action` is declared as the type of actions
+# of those of the empty namespace too
+entity Action
+schema => refused 8: entity type `Action` is declared as the type of actions
 # 9: a context that is no record
 entity User
 action edit |  | User | User | {}
 action view |  | User | User | Set of {}
 schema => refused 9: context of `Action::"view"` is not a record
 steps => User over; context of `Action::"view"` is not a record
+# or a number
+entity User
+action view |  | User | User | Long
+schema => refused 9: context of `Action::"view"` is not a record
 # 10: a reserved name, of an entity type
 entity __cedar
 schema => refused 10: the name `__cedar` is reserved
@@ -367,6 +392,11 @@ entity T
 namespace N
 type T | Long
 schema => refused 11: definition of `N::T` illegally shadows a type of the empty namespace
+# one of its own kind
+entity User
+namespace N
+entity User
+schema => refused 11: definition of `N::User` illegally shadows a type of the empty namespace
 # an action
 action view
 namespace N
@@ -382,6 +412,10 @@ entity User |  | a: Set of {b: {r: extension ip}}
 action view |  | User | User | {r: extension ip}
 schema => refused 12: unknown extension type `ip`
 steps => unknown extension type `ip`; unknown extension type `ip`
+# in an attribute, where no function is known
+entity User |  | a: extension rank
+schema => User a: rank over
+schema_without => refused 12: unknown extension type `rank`
 # what graphs of names are refused for
 refusal repeated => repeated name
 refusal cycle => cycle in graph
@@ -486,6 +520,7 @@ validate => passed
 # and some that are made by hand
 validate A < A | Action::a => passed
 validate A < B; B | Action::a < Action::b; Action::b => passed
+validate Color | Action::a => passed
 # an extension type has to be known
 entity User |  |  | extension rank
 schema => User tags rank over

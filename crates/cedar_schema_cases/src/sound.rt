@@ -8,9 +8,10 @@ use cedar_schema_built::ValidatorSchema;
 use cedar_schema_entries::{AppliesTo, ValidatorActionId, ValidatorEntityType};
 use cedar_schema_sound::TryValidate;
 use cedar_schema_types::Type;
-use cedar_test_exprs::{both, entity_type, uid};
+use cedar_test_exprs::{both, entity_type, uid, word};
 use std::alloc::{AllocError, Global};
 use std::collections::BTreeSet;
+use std::rc::RcStr;
 
 // Whether the schema that was built last is sound, or the one that the rest of the question makes.
 pub fn validate(
@@ -52,10 +53,20 @@ fn actions(alloc: Global, text: &str) -> Result<Vec<ValidatorActionId>, AllocErr
     Ok(actions)
 }
 
-// An entity type that is declared elsewhere.
-fn declared(alloc: Global, word: &str, below: &str) -> Result<ValidatorEntityType, AllocError> {
-    let (name, below) = both(entity_type(alloc, word), types_of(alloc, below))?;
+// An entity type that is declared elsewhere; `Color` is declared here, and has the member `red`.
+fn declared(alloc: Global, text: &str, below: &str) -> Result<ValidatorEntityType, AllocError> {
+    let (name, below) = both(entity_type(alloc, text), types_of(alloc, below))?;
+    if text == "Color" {
+        return ValidatorEntityType::new_enum(alloc, name, below, red(alloc)?, None);
+    }
     ValidatorEntityType::new_external(alloc, name, below, None)
+}
+
+// The member `red` alone.
+fn red(alloc: Global) -> Result<BTreeSet<RcStr>, AllocError> {
+    let mut members = BTreeSet::new(alloc);
+    members.insert(word(alloc, "red")?)?;
+    Ok(members)
 }
 
 // An action that is declared elsewhere; `Action::long` is declared here, and its context is no record.

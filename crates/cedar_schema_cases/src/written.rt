@@ -2,7 +2,7 @@
 
 use cedar_expr_leaves::ConditionalName;
 use cedar_schema_decl::json_schema::CommonType;
-use cedar_schema_examples::{fragment, id, ty};
+use cedar_schema_examples::{definition, fragment, id, name, ty};
 use cedar_schema_fragments::{FragmentError, ValidatorNamespaceDef, ValidatorSchemaFragment};
 use cedar_test_exprs::both;
 use std::alloc::{AllocError, Global};
@@ -12,14 +12,22 @@ pub type Written = ValidatorSchemaFragment<ConditionalName, ConditionalName>;
 
 type Space = ValidatorNamespaceDef<ConditionalName, ConditionalName>;
 
-// The fragment of these lines, or of one line `common A | Set of T` or `commons A | Set of T`.
+// The fragment of these lines, or of one line `common A | Set of T` or `commons A | Set of T`, or of the lines behind a line `apart N`.
 pub fn written(alloc: Global, lines: &str) -> Result<Written, FragmentError> {
     let (verb, rest) = lines.trim_end().split_once(' ').unwrap_or((lines, ""));
-    if verb != "common" && verb != "commons" {
-        return Written::from_schema_fragment(alloc, fragment(alloc, lines)?);
-    }
-    let space = common_type(alloc, verb, rest)?;
+    let space = match verb {
+        "common" | "commons" => common_type(alloc, verb, rest)?,
+        "apart" => apart(alloc, rest)?,
+        _ => return Written::from_schema_fragment(alloc, fragment(alloc, lines)?),
+    };
     Ok(Written::from_namespaces(vec![in alloc; space]?))
+}
+
+// The namespace of this name, and what the lines behind it declare.
+fn apart(alloc: Global, text: &str) -> Result<Space, FragmentError> {
+    let (space, lines) = text.split_once('\n').unwrap_or((text, ""));
+    let (space, definition) = both(name(alloc, space), definition(alloc, lines))?;
+    Space::from_namespace_definition(alloc, Some(space), definition)
 }
 
 // The empty namespace with this common type alone, by itself or as that of a list. A name `N/T` in its type is `T`, written in the

@@ -1,13 +1,18 @@
 //! The commands of the rows.
 
-use crate::types::{ty, types, union};
+use crate::facts::{facts, success};
+use crate::types::{attributes, ty, types, union};
 use cedar_expr_functions::{ExtensionFunctionLookupError, Extensions};
 use cedar_schema_joins::{
-    ValidationMode, least_upper_bound, reduce_to_least_upper_bound, typecheck_restricted_expr,
+    ValidationMode, are_types_disjoint, is_subtype, least_upper_bound, reduce_to_least_upper_bound,
+    typecheck_restricted_expr, typecheck_value,
 };
-use cedar_schema_types::{CoreSchemaType, CoreTypeError, OpenTag, Type, core_schema_type};
-use cedar_test_exprs::{both, copied, kept, made, read, say, show, tell, told, word};
+use cedar_schema_types::{
+    Attributes, CoreSchemaType, CoreTypeError, OpenTag, Type, core_schema_type,
+};
+use cedar_test_exprs::{both, copied, kept, made, read, say, show, tell, told, value, word};
 use std::alloc::{AllocError, Global};
+use std::rc::RcStr;
 
 // Does the command.
 pub fn done(alloc: Global, said: &mut String, verb: &str, rest: &str) -> Result<(), AllocError> {
@@ -21,8 +26,42 @@ pub fn done(alloc: Global, said: &mut String, verb: &str, rest: &str) -> Result<
         "only" => only(alloc, said, rest),
         "of_required" => told(alloc, said, of_required(alloc, rest)),
         "asked" => asked(alloc, said, rest),
+        "required" => {
+            let made = Attributes::with_required_attributes(alloc, required(alloc, rest)?);
+            shown(alloc, said, made)
+        }
+        "attributes" => {
+            let made = Attributes::with_attributes(alloc, attributes(alloc, rest)?);
+            shown(alloc, said, made)
+        }
+        _ => parted(alloc, said, verb, rest),
+    }
+}
+
+// Does the command, which has two parts.
+fn parted(alloc: Global, said: &mut String, verb: &str, rest: &str) -> Result<(), AllocError> {
+    let (one, other) = rest.split_once(" | ").ok_or(AllocError)?;
+    match verb {
+        "below" => below(alloc, said, one, other),
+        "disjoint" => {
+            let (one, other) = both(ty(alloc, one), ty(alloc, other))?;
+            tell(said, are_types_disjoint(&one, &other))
+        }
+        "value_of" => {
+            let (of, value) = both(ty(alloc, one), value(alloc, other))?;
+            tell(said, typecheck_value(&of, &value))
+        }
+        "facts" => facts(alloc, said, one, other),
+        "success" => success(alloc, said, &*ty(alloc, one)?, &*ty(alloc, other)?),
         _ => Err(AllocError),
     }
+}
+
+// Says whether the one type is below the other, in the strict and in the permissive mode.
+fn below(alloc: Global, said: &mut String, one: &str, other: &str) -> Result<(), AllocError> {
+    let (one, other) = both(ty(alloc, one), ty(alloc, other))?;
+    tell(said, is_subtype(&one, &other, ValidationMode::Strict))?;
+    tell(said, is_subtype(&one, &other, ValidationMode::Permissive))
 }
 
 // Says the text of a join.
@@ -109,15 +148,36 @@ fn only(alloc: Global, said: &mut String, text: &str) -> Result<(), AllocError> 
     }
 }
 
-// The open record of these attributes, required.
-fn of_required(alloc: Global, text: &str) -> Result<Type, AllocError> {
+// The names and types of a text.
+fn required(alloc: Global, text: &str) -> Result<Vec<(RcStr, Type)>, AllocError> {
     let mut pairs = Vec::new(alloc);
     for part in text.split(", ") {
         let (name, of) = part.split_once(": ").ok_or(AllocError)?;
         let of = made(Type::clone(&*ty(alloc, of)?))?;
         pairs.push((word(alloc, name)?, of))?;
     }
+    Ok(pairs)
+}
+
+// The open record of these attributes, required.
+fn of_required(alloc: Global, text: &str) -> Result<Type, AllocError> {
+    let pairs = required(alloc, text)?;
     Type::record_with_required_attributes(alloc, pairs, OpenTag::OpenAttributes)
+}
+
+// Says the attributes, in the order of their names.
+fn shown(
+    alloc: Global,
+    said: &mut String,
+    made: Result<Attributes, AllocError>,
+) -> Result<(), AllocError> {
+    let attributes = kept(alloc, made)?;
+    for (name, declared) in attributes.iter() {
+        say(said, name.as_str())?;
+        said.push_str(if declared.is_required() { ":" } else { "?:" })?;
+        show(alloc, said, &declared.attr_type)?;
+    }
+    Ok(())
 }
 
 // Says whether an expression is of a type, or the name of a function that isn't there.

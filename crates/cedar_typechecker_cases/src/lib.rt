@@ -7,6 +7,7 @@
 mod asked;
 mod built;
 mod checked;
+mod facts;
 mod rows;
 mod shown;
 mod type_rows;

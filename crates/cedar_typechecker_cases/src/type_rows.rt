@@ -58,6 +58,22 @@ strict_join True, Never, False : Bool
 permissive_join Doc, User, Doc : __cedar::internal::Union<Doc, User>
 strict_join Doc, User, Doc : none
 permissive_join Long, String, Never : none
+# whether the one type is below the other, in the strict and in the permissive mode, and whether no value is of both
+below True | Bool : yes yes
+below Bool | True : no no
+below Never | Long : yes yes
+below Doc | Doc or User : no yes
+below {a: Long} | {..} : no yes
+below {a: Long} | {a?: Long} : no yes
+disjoint Doc | User : yes
+disjoint Doc or User | User : no
+disjoint Long | String : no
+# whether a value is of a type
+value_of Long | 1 : yes
+value_of Bool | 1 : no
+value_of Set of Long | 1 2 set=2 : yes
+value_of {a: Long} | 1 2 record=a,b : no
+value_of rank | ext=rank/"7/7 : yes
 # what a type is as one by which values can be read, and the first that stands in the way of one that can't be
 core Never : no value can be read by the type of no value
 core Bool : Bool
@@ -84,6 +100,15 @@ only Doc or Doc : Doc
 only Doc or User : none
 # of a repeated name the last stands; attributes come in the order of their names
 of_required b: Long, a: Doc or User, b: String : __cedar::internal::OpenRecord{"a": __cedar::internal::Union<Doc, User>, "b": String}
+# the same by a call of its own, and with attributes that aren't required
+required b: Long, a: Doc, b: String : a: Doc b: String
+attributes b: Long, a?: Bool, b?: String : a?: Bool b?: String
+# of two facts, whether the second is in the union of sets of one each, and whether it is in their intersection; places don't count
+facts principal ok | principal nick : yes no
+facts principal ok | principal@3 ok : yes yes
+facts principal ok | resource ok : yes no
+# whether an answer without facts has a type, and whether it has this one and the other
+success Long | Bool : yes yes no
 # literals, sets and records are of a type as values are; unknowns, variables and operators are of none
 asked Bool | true : yes
 asked True | true : yes

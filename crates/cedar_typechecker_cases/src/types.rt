@@ -46,18 +46,24 @@ fn attribute(alloc: Global, text: &str) -> Result<(RcStr, AttributeType), AllocE
     }
 }
 
-// The record of attributes with commas between them; `..` stands behind those of an open one.
+// The attributes of a text, with commas between them.
+pub fn attributes(alloc: Global, text: &str) -> Result<Vec<(RcStr, AttributeType)>, AllocError> {
+    let mut pairs = Vec::new(alloc);
+    for attr in text.split(", ") {
+        if !attr.is_empty() {
+            pairs.push(attribute(alloc, attr)?)?;
+        }
+    }
+    Ok(pairs)
+}
+
+// The record of attributes; `..` stands behind those of an open one.
 fn record(alloc: Global, text: &str) -> Made {
     let (attrs, tag) = match text.strip_suffix("..") {
         Some(attrs) => (attrs, OpenTag::OpenAttributes),
         None => (text, OpenTag::ClosedAttributes),
     };
-    let mut pairs = Vec::new(alloc);
-    for attr in attrs.split(", ") {
-        if !attr.is_empty() {
-            pairs.push(attribute(alloc, attr)?)?;
-        }
-    }
+    let pairs = attributes(alloc, attrs)?;
     kept(alloc, Type::record_with_attributes(alloc, pairs, tag))
 }
 
