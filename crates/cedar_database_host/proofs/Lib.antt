@@ -1,0 +1,4 @@
+pub mod LookupLemmas
+pub mod TableLemmas
+pub mod AnswerLemmas
+pub mod LoopLemmas
