@@ -337,7 +337,7 @@ fn keyed(alloc: Global, text: &str) -> Result<Vec<(RcStr, u8)>, AllocError> {
     Ok(pairs)
 }
 
-// Says the words in their order, or the first that stands twice.
+// Says the words in their order, or the first that is repeated.
 fn collected(alloc: Global, said: &mut String, text: &str) -> Result<(), AllocError> {
     match collect_no_duplicates(alloc, keyed(alloc, text)?) {
         Ok(words) => {
