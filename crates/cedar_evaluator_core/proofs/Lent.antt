@@ -9,11 +9,12 @@ use Rattle.std.specs.declared.cmp.Ordering.{Ordering}
 use Rattle.std.specs.declared.cmp.Ordering.TheVariants.{Less, Equal, Greater}
 use Rattle.cedar_expr_model.specs.Name.{Text, Name, name_eq}
 use Rattle.cedar_expr_model.specs.Uid.{Uid, uid_eq}
+use Rattle.cedar_expr_model.specs.Builder.{trees}
 use Rattle.cedar_expr_model.specs.Made.{Made, made_prim, bare}
 use Rattle.cedar_expr_model.specs.Order.{uid_order}
 use Rattle.cedar_expr_model.specs.Pattern.{Pattern}
 use Rattle.cedar_expr_model.specs.Table.{Table, Called}
-use Rattle.cedar_expr_model.specs.Tree.{Var, UnaryOp, BinaryOp, Tree, lit, var, unary, binary, get_attr, has_attr, like, is_type}
+use Rattle.cedar_expr_model.specs.Tree.{Var, UnaryOp, BinaryOp, contains, Tree, lit, var, unary, binary, set_literal, get_attr, has_attr, like, is_type}
 use Rattle.cedar_expr_model.specs.Value.{Literal, V, long, entity}
 use Rattle.cedar_expr_names.specs.Views.{name_bytes, eid_text, uid_of}
 use Rattle.cedar_expr_names.specs.declared.entity.EntityUID.{EntityUID}
@@ -38,7 +39,7 @@ use Rattle.cedar_evaluator_reads.specs.Seen.{IsFound}
 use Rattle.cedar_evaluator_reads.specs.declared.knowledge.Knowledge.{Knowledge}
 use Rattle.cedar_evaluator_operators.specs.Scopes.{scope_of}
 use Rattle.cedar_evaluator_operators.proofs.Alike.{variable_alike, attribute_alike, test_alike}
-use Rattle.cedar_evaluator_core.specs.Lent.{lent_made, part_found, Lends, LendsWithin}
+use Rattle.cedar_evaluator_core.specs.Lent.{lent_made, part_found, ContainsWithin, Lends, LendsWithin}
 use Rattle.cedar_evaluator_core.specs.declared.lending.Lent.{Lent}
 use Rattle.cedar_evaluator_core.specs.declared.lending.Lent.TheVariants as lent
 use Rattle.cedar_evaluator_core.proofs.Levels.{one_level}
@@ -119,3 +120,9 @@ module _ {T : Type 0} (table : T → (Name → List V → Called) → Table) (k 
     binary_lends x b w other is h = at_level (binary x u b) is (λ fs.
         subst (λ l. Lends (binary_left (scope fs) x l (go fs b)) o) (sym (part.lends fs))
         (subst (λ l. Lends (binary_left (scope fs) x (value_left (lent_made v)) l) o) (sym (other.lends fs)) (h (scope fs))))
+
+  -- `contains` of a set literal
+  pub contains_lends : (u b : Tree) (ms : List Tree) (w : Lent) → u ≡ set_literal (trees ms) → LendsWithin table k (n - 1) b (Some w) → binary contains u b ≡ t → ContainsWithin table k (n - 1) ms (lent_made w) o → LendsWithin table k n t o
+  contains_lends u b ms w members second is h = at_level (binary contains u b) is (λ fs.
+      subst (λ l. Lends (binary_left (scope fs) contains (go fs u) l) o) (sym (second.lends fs))
+      (subst (λ y. Lends (binary_left (scope fs) contains (go fs y) (value_left (lent_made w))) o) (sym members) (h.lends fs)))

@@ -1,6 +1,7 @@
 pub mod Levels
 pub mod Gathered
 pub mod Lent
+pub mod Among
 pub mod Named
 pub mod Nodes
 pub mod OneLevel

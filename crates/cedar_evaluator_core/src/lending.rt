@@ -1,31 +1,34 @@
 //! Values that are found without a copy: literals, the request's uids, what attributes hold, and what operators make of them. Most
 //! conditions of policies are truth values of this kind; of any other expression nothing is said here, and the walk evaluates it.
 
-ghost use Rattle.std.specs.Prelude.{◌≡◌, IfSome, Some, option_map};
+ghost use Rattle.std.specs.Prelude.{◌≡◌, IfSome, Some, map, option_map};
 ghost use Rattle.std.specs.Ordering.{is_eq};
 ghost use Rattle.std.specs.Rc.{rc_str_bytes};
 ghost use Rattle.cedar_expr_leaves.specs.Literals.{literal_of};
 ghost use Rattle.cedar_expr_leaves.specs.Operators.{unary_op_of, binary_op_of};
 ghost use Rattle.cedar_expr_leaves.specs.Patterns.{pattern_of};
 ghost use Rattle.cedar_expr_leaves.specs.Variables.{var_of};
+ghost use Rattle.cedar_expr_model.specs.Builder.{trees};
 ghost use Rattle.cedar_expr_model.specs.Made.{bare, made_prim};
 ghost use Rattle.cedar_expr_model.specs.Name.{Text};
 ghost use Rattle.cedar_expr_model.specs.Order.{text_cmp, uid_order, value_eq};
+ghost use Rattle.cedar_expr_model.specs.Tree.{contains, set_literal};
 ghost use Rattle.cedar_expr_model.specs.Value.{entity, long};
 ghost use Rattle.cedar_expr_names.specs.Views.{uid_of, type_name_of};
 ghost use Rattle.cedar_expr_trees.specs.Trees.{tree_of};
 ghost use Rattle.cedar_expr_values.specs.Extensions.{extension_of};
 ghost use Rattle.cedar_expr_values.specs.Values.{made};
 ghost use Rattle.cedar_store_entities.specs.Views.{part_seen};
-ghost use Rattle.cedar_store_model.specs.Operators.{applied, like_pattern, of_type, says};
+ghost use Rattle.cedar_store_model.specs.Operators.{applied, like_pattern, of_type};
 ghost use Rattle.cedar_evaluator_model.specs.Evaluation.{entry_left, variable_left};
 ghost use Rattle.cedar_evaluator_model.specs.Scope.{Scope};
 ghost use Rattle.cedar_evaluator_model.specs.Steps.{attribute_of, combined_left, left_of, made_named, test_of};
 ghost use Rattle.cedar_evaluator_requests.specs.Views.{entry_of};
 ghost use Rattle.cedar_evaluator_reads.specs.Scopes.{scope_seen};
 ghost use Rattle.cedar_evaluator_reads.specs.Seen.{record_fields};
-ghost use Rattle.cedar_evaluator_core.specs.Lent.{lent_made, part_found, Lends, LendsWithin};
+ghost use Rattle.cedar_evaluator_core.specs.Lent.{lent_made, part_found, ContainsWithin, Lends, LendsWithin};
 
+use crate::gathering::members_of;
 use cedar_evaluator_operators::FunctionTable;
 use cedar_evaluator_reads::seen::{Seen, field, seen_as};
 use cedar_evaluator_reads::{Knowledge, V};
@@ -41,7 +44,7 @@ use std::collections::BTreeMap;
 use std::rc::RcStr;
 
 // A value, lent.
-#[derive(Drop)]
+#[derive(Clone, Copy)]
 pub(crate) enum Lent<'a> {
     // A truth value.
     Truth(bool),
@@ -197,15 +200,15 @@ fn same_entity(u: &EntityUID, v: &EntityUID) -> bool
 }
 
 // Whether two values of one kind are equal.
-fn same<'a>(a: Lent<'a>, b: Lent<'a>) -> Option<Lent<'a>>
-    ensures { Lends (left_of (says (value_eq (bare (lent_made a.entry)) (bare (lent_made b.entry))))) result }
+fn equal<'a>(a: Lent<'a>, b: Lent<'a>) -> Option<bool>
+    ensures { IfSome result (λ q. value_eq (bare (lent_made a.entry)) (bare (lent_made b.entry)) ≡ q) }
 {
     match (a, b) {
-        (Lent::Truth(a), Lent::Truth(b)) => Some(Lent::Truth(a.cmp(&b).is_eq())),
-        (Lent::Long(m), Lent::Long(n)) => Some(Lent::Truth(m.cmp(&n).is_eq())),
-        (Lent::Text(s), Lent::Text(t)) => Some(Lent::Truth(same_text(s, t))),
-        (Lent::Entity(u), Lent::Entity(v)) => Some(Lent::Truth(same_entity(u, v))),
-        (Lent::Value(v), Lent::Value(w)) => Some(Lent::Truth(v.same(w))),
+        (Lent::Truth(a), Lent::Truth(b)) => Some(a.cmp(&b).is_eq()),
+        (Lent::Long(m), Lent::Long(n)) => Some(m.cmp(&n).is_eq()),
+        (Lent::Text(s), Lent::Text(t)) => Some(same_text(s, t)),
+        (Lent::Entity(u), Lent::Entity(v)) => Some(same_entity(u, v)),
+        (Lent::Value(v), Lent::Value(w)) => Some(v.same(w)),
         _ => None,
     }
 }
@@ -229,7 +232,7 @@ fn binary<'a>(op: BinaryOp, a: Lent<'a>, b: Lent<'a>) -> Option<Lent<'a>>
     ensures { (s : Scope) → Lends (combined_left s (binary_op_of op) (lent_made a.entry) (lent_made b.entry)) result }
 {
     match op {
-        BinaryOp::Eq => same(a, b),
+        BinaryOp::Eq => Some(Lent::Truth(equal(a, b)?)),
         _ => match (a, b) {
             (Lent::Long(m), Lent::Long(n)) => of_numbers(op, m, n),
             _ => None,
@@ -257,7 +260,41 @@ fn is_of_type<'a>(of: Lent<'a>, kind: &EntityType) -> Option<Lent<'a>>
     }
 }
 
+// The members of the set literal of which `contains` is asked.
+fn members_asked(op: BinaryOp, first: &Expr) -> Option<&[Expr]>
+    ensures operator { IfSome result (λ ms. binary_op_of op ≡ contains) }
+    ensures members { IfSome result (λ ms. tree_of first.now ≡ set_literal (trees (map tree_of ms.now))) }
+{
+    match (op, first.expr_kind()) {
+        (BinaryOp::Contains, ExprKind::Set(members)) => Some(members_of(members)),
+        _ => None,
+    }
+}
+
+// Whether the set literal of these members, within a limit on its depth, contains the value. The set isn't made.
+#[cycle(value_lent)]
+fn among<'a, T: FunctionTable>(
+    alloc: Global,
+    known: &'a Knowledge<'_, T>,
+    limit: u32,
+    members: &'a [Expr],
+    of: Lent<'a>,
+) -> Option<Lent<'a>>
+    ensures { ContainsWithin T.table known.now limit (map tree_of members.now) (lent_made of.entry) result }
+{
+    if limit == 0 {
+        return None;
+    }
+    let mut found = false;
+    for member in members {
+        let is_it = equal(value_lent(alloc, known, limit - 1, member)?, of)?;
+        found = found || is_it;
+    }
+    Some(Lent::Truth(found))
+}
+
 // The value of the expression, within a limit on its depth, if it is one that is found without a copy.
+#[cycle(value_lent)]
 pub(crate) fn value_lent<'a, T: FunctionTable>(
     alloc: Global,
     known: &'a Knowledge<'_, T>,
@@ -280,11 +317,13 @@ pub(crate) fn value_lent<'a, T: FunctionTable>(
             test(alloc, known, value_lent(alloc, known, deeper, expr)?, attr)
         }
         ExprKind::UnaryApp { op, arg } => unary(*op, value_lent(alloc, known, deeper, arg)?),
-        ExprKind::BinaryApp { op, arg1, arg2 } => binary(
-            *op,
-            value_lent(alloc, known, deeper, arg1)?,
-            value_lent(alloc, known, deeper, arg2)?,
-        ),
+        ExprKind::BinaryApp { op, arg1, arg2 } => {
+            let second = value_lent(alloc, known, deeper, arg2)?;
+            match members_asked(*op, arg1) {
+                Some(members) => among(alloc, known, deeper, members, second),
+                None => binary(*op, value_lent(alloc, known, deeper, arg1)?, second),
+            }
+        }
         ExprKind::Like { expr, pattern } => like(value_lent(alloc, known, deeper, expr)?, pattern),
         ExprKind::Is { expr, entity_type } => {
             is_of_type(value_lent(alloc, known, deeper, expr)?, entity_type)
