@@ -171,8 +171,8 @@ fn and_judgement<'a>(
     }
 }
 
-// The judgement of a conjunction of sides of these types.
-fn conjoined<'a>(
+/// The judgement of a conjunction of sides of these types.
+pub fn conjoined<'a>(
     alloc: Global,
     left: &Type,
     own: &CapabilitySet<'a>,
@@ -369,8 +369,8 @@ fn or_judgement<'a>(
     }
 }
 
-// The judgement of a disjunction of sides of these types.
-fn disjoined<'a>(
+/// The judgement of a disjunction of sides of these types.
+pub fn disjoined<'a>(
     alloc: Global,
     left: &Type,
     own: CapabilitySet<'a>,

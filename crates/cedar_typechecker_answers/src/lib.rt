@@ -16,7 +16,7 @@ mod surface;
 
 pub use answer::{Judged, TypecheckAnswer, judged_node, plain_node};
 pub use choice::{ChoiceStep, choice_node, choice_step, first_answer, second_answer};
-pub use connectives::{Step, and_answer, and_step, or_answer, or_step};
+pub use connectives::{Step, and_answer, and_step, conjoined, disjoined, or_answer, or_step};
 pub use copies::untyped;
 pub use faults::{Faults, TypeFault, TypingErrorKind, failed, no_type};
 pub use kinds::{call_kind, record_kind, set_kind};

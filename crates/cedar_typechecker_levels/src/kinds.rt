@@ -52,8 +52,8 @@ pub(crate) fn is_entity(ty: &Option<Type>) -> bool
     }
 }
 
-// Whether a type that is there is one of entities.
-pub(crate) fn is_entity_type(ty: &Type) -> bool
+/// Whether a type that is there is one of entities.
+pub fn is_entity_type(ty: &Type) -> bool
     ensures { result ≡ is_entity (Some (type_of ty.now)) }
 {
     match ty {
@@ -75,8 +75,8 @@ fn is_kind(kind: &EntityKind) -> bool
     }
 }
 
-// Whether the operator looks up its first operand.
-pub(crate) fn looks_up(op: BinaryOp) -> bool
+/// Whether the operator looks up its first operand.
+pub fn looks_up(op: BinaryOp) -> bool
     ensures { result ≡ looks_up (binary_op_of op) }
 {
     match op {
@@ -87,8 +87,8 @@ pub(crate) fn looks_up(op: BinaryOp) -> bool
     }
 }
 
-// Whether the operator gives a tag.
-pub(crate) fn is_get_tag(op: BinaryOp) -> bool
+/// Whether the operator gives a tag.
+pub fn is_get_tag(op: BinaryOp) -> bool
     ensures { result ≡ is_get_tag (binary_op_of op) }
 {
     match op {

@@ -1,5 +1,5 @@
 //! Levels: how far a typed expression reaches into the store.
-//! Its one contract is `level_violations`: exactly the violations of the rules of levels, at any level of 32 bits, in one walk.
+//! Its main contract is `level_violations`: exactly the violations of the rules of levels, at any level of 32 bits, in one walk.
 //! The validator of the typechecker calls it for each environment of a policy.
 #![tactic(auto)]
 
@@ -12,6 +12,7 @@ mod steps;
 mod violation;
 mod walk;
 
+pub use kinds::{is_entity_type, is_get_tag, looks_up};
 pub use level::EntityDerefLevel;
 pub use violation::LevelViolation;
 pub use walk::level_violations;

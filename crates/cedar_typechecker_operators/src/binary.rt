@@ -117,8 +117,8 @@ fn wrong(op: BinaryOp) -> TypingErrorKind {
     }
 }
 
-// The judgement of an operator of operands of these types.
-fn binary_judgement<'a, S: TypingSchema>(
+/// The judgement of an operator of operands of these types, where these facts are known.
+pub fn binary_judgement<'a, S: TypingSchema>(
     alloc: Global,
     world: &World<'_, S>,
     known: &CapabilitySet<'a>,

@@ -126,8 +126,8 @@ fn chosen_judgement<'a, S: TypingSchema>(
     }
 }
 
-// The judgement of a choice of branches of these types and facts.
-fn chosen<'a, S: TypingSchema>(
+/// The judgement of a choice of branches of these types and facts.
+pub fn chosen<'a, S: TypingSchema>(
     alloc: Global,
     world: &World<'_, S>,
     t: &Type,

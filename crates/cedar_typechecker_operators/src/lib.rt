@@ -12,10 +12,12 @@ mod paths;
 mod rows;
 mod walk;
 
-pub use binary::binary_answer;
-pub use choice::chosen_answer;
+pub use binary::{binary_answer, binary_judgement};
+pub use choice::{chosen, chosen_answer};
 pub use leaves::{literal_answer, slot_answer, variable_answer};
-pub use operators::{get_answer, has_answer, is_answer, like_answer, unary_answer};
+pub use operators::{
+    attribute_judgement, get_answer, has_answer, is_answer, known_type, like_answer, unary_answer,
+};
 pub use paths::path_answer;
 pub use rows::{call_answer, record_answer, set_answer};
 pub use walk::typecheck;

@@ -207,8 +207,8 @@ fn get_kind(
     Ok(ExprKind::GetAttr { expr, attr })
 }
 
-// The type of an attribute that is declared and required, or one of the facts.
-fn known_type<'a, S: TypingSchema>(
+/// The type of an attribute that is declared and required, or one of the facts.
+pub fn known_type<'a, S: TypingSchema>(
     alloc: Global,
     world: &World<'_, S>,
     known: &CapabilitySet<'a>,
@@ -273,8 +273,8 @@ fn has_node<'a>(
     judged_node(faults, kind, place, judged, TypingErrorKind::UnexpectedType)
 }
 
-// The judgement of the test that the expression, which is of this type, has the attribute.
-fn attribute_judgement<'a, S: TypingSchema>(
+/// The judgement of the test that the expression, which is of this type, has the attribute.
+pub fn attribute_judgement<'a, S: TypingSchema>(
     alloc: Global,
     world: &World<'_, S>,
     of: &'a Expr,

@@ -14,10 +14,12 @@ use Rattle.cedar_typechecker_model.specs.Levels.{Violation}
 use Rattle.cedar_typechecker_model.specs.Typing.{type_of}
 use Rattle.cedar_typechecker_model.specs.Verdicts.{in_mode, is_bool, is_false, fits}
 use Rattle.cedar_typechecker_policies.specs.Checks.{IsChecked, is_error_of}
+use Rattle.cedar_typechecker_policies.specs.Fast.{IsClearVerdict}
 use Rattle.cedar_typechecker_policies.specs.Findings.{ChecksOver}
 use Rattle.cedar_typechecker_policies.specs.Violations.{reached_in, violation_told, violated_by}
 use Rattle.cedar_typechecker_policies.specs.declared.checked.Checked.{Checked}
 use Rattle.cedar_typechecker_policies.specs.declared.findings.PolicyFindings.{PolicyFindings}
+use Rattle.cedar_typechecker_policies.specs.declared.verdict.Verdict.{Verdict}
 use Rattle.cedar_typechecker_policies.proofs.Wrong.{nil_together}
 
 one_true : (b : Bool) → b ≡ (b && true)
@@ -70,4 +72,22 @@ module _ (n : Option ℕ) (m : Mode) (s : Schema) (x : Table) (p : Policy) where
           ∙ (λ i. was.violations i ++ map (reached_in p.id) (sym (append-nil (violated_in e)) i))
           ∙ sym (map-append (reached_in p.id) (flat_map violated_in es) (flat_map violated_in (e ∷ [])))
           ∙ ap (map (reached_in p.id)) (sym (flat_map-append violated_in es (e ∷ [])));
+    }
+
+  -- one more environment, in which nothing is wrong
+  module _ (es : List Environment) (e : Environment) (old new : PolicyFindings) (v : Verdict) (fit : Bool) where
+    none_more : violated_in e ≡ [] → flat_map violated_in es ≡ flat_map violated_in (es ++ e ∷ [])
+    none_more none = sym (flat_map-append violated_in es (e ∷ []) ∙ (λ i. flat_map violated_in es ++ (none i ++ [])) ∙ append-nil (flat_map violated_in es))
+
+    pub checks_clear : IsClearVerdict n (in_mode m s x e) (condition p) v → ChecksOver n m s x p es old → fit ≡ fits p e
+        → new.passes ≡ (old.passes && v.is_bool) → new.is_warned ≡ (old.is_warned && v.is_false) → new.is_impossible ≡ (old.is_impossible && (not fit || v.is_false))
+        → new.errors ≡ old.errors → new.violations ≡ old.violations
+        → ChecksOver n m s x p (es ++ e ∷ []) new
+    checks_clear now was fitting passes warned impossible errors violations = record {
+      passes = passes ∙ (λ i. was.passes i && (now.verdict.bools ∙ one_true (bool_in e)) i) ∙ sym (list_all-append bool_in es (e ∷ []));
+      warned = warned ∙ (λ i. was.warned i && (now.verdict.falses ∙ one_true (false_in e)) i) ∙ sym (list_all-append false_in es (e ∷ []));
+      impossible = impossible ∙ (λ i. was.impossible i && ((λ j. not (fitting j) || now.verdict.falses j) ∙ one_true (excused_in e)) i) ∙ sym (list_all-append excused_in es (e ∷ []));
+      policy = ap (λ es. list_all (is_error_of p.id) es.items) errors ∙ was.policy;
+      errors = ap (λ es. is_nil es.items) errors ∙ was.errors ∙ one_true old.passes ∙ (λ i. old.passes && sym now.bools i) ∙ sym passes;
+      violations = ap (λ vs. map violation_told vs.items) violations ∙ was.violations ∙ ap (map (reached_in p.id)) (none_more now.within);
     }

@@ -1,4 +1,5 @@
 pub mod Checks
+pub mod Fast
 pub mod Findings
 pub mod Found
 pub mod Iterated

@@ -10,6 +10,7 @@ ghost use Rattle.cedar_typechecker_scopes.specs.Environments.{AreOfSchema};
 
 use crate::bindings::fits;
 use crate::checked::check_condition;
+use crate::fast::clear_verdict;
 use crate::verdict::Verdict;
 use crate::violations::{PolicyViolation, add_reached_of};
 use cedar_schema_joins::ValidationMode;
@@ -103,7 +104,12 @@ fn add_environment<S: TypingSchema>(
     ensures { OnOk result (ChecksOneMore S.schema S.table schema.now (mode_of mode) policy.now (environment_of env.now) found.old found.new) }
 {
     let world = World { schema, mode, env };
-    let checked = check_condition(alloc, &world, policy.id, policy.template.condition())?;
+    let condition = policy.template.condition();
+    if let Some(verdict) = clear_verdict(alloc, &world, policy.level, condition)? {
+        add_verdict(found, verdict, fits(policy.bound, env));
+        return Ok(());
+    }
+    let checked = check_condition(alloc, &world, policy.id, condition)?;
     add_verdict(found, checked.verdict, fits(policy.bound, env));
     let violations = &mut found.violations;
     add_reached_of(alloc, &world, policy.level, policy.id, &checked, violations)?;

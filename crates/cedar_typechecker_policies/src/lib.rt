@@ -9,6 +9,7 @@ mod checked;
 mod checks;
 mod condition;
 mod errors;
+mod fast;
 mod findings;
 mod leveled;
 mod policy;
